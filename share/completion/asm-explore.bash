@@ -1,7 +1,13 @@
 # Completion of the words of asm-explore, for bash: source it, or let ./install put it where bash looks for it.
+# Made by share/man/make --write.
+_asm_explore_all_options=$'--steps\n--turns\n--always\n--always-file\n--deadlock-unless\n--within\n--states\n--outcomes\n--workers\n--dot\n--trace\n--progress\n--help\n--version'
+_asm_explore_random_options=$'--steps\n--turns\n--always\n--always-file\n--runs\n--seed\n--trace\n--progress\n--help\n--version'
+_asm_explore_choices_options=$'--steps\n--turns\n--script\n--help\n--version'
+_asm_explore_clash_options=$'--steps\n--turns\n--script\n--help\n--version'
+_asm_explore_plain=$'--steps\n--turns\n--always\n--deadlock-unless\n--within\n--states\n--outcomes\n--workers\n--runs\n--seed'
 _asm_explore() {
     local current="${COMP_WORDS[COMP_CWORD]}" before="${COMP_WORDS[COMP_CWORD - 1]}" command="${COMP_WORDS[1]}"
-    local commands=$'all\nrandom\nchoices\nclash\nhelp' options=$'--steps\n--turns\n--help\n--version'
+    local commands=$'all\nrandom\nchoices\nclash\nhelp' options=$'--help\n--version'
     COMPREPLY=()
     # A name with spaces stays one word.
     local IFS=$'\n'
@@ -17,9 +23,10 @@ _asm_explore() {
         return
     fi
     case "$command" in
-        all) options+=$'\n--always\n--always-file\n--deadlock-unless\n--within\n--states\n--outcomes\n--workers\n--dot\n--trace\n--progress' ;;
-        random) options+=$'\n--always\n--always-file\n--runs\n--seed\n--trace\n--progress' ;;
-        choices | clash) options+=$'\n--script' ;;
+        all) options=$_asm_explore_all_options ;;
+        random) options=$_asm_explore_random_options ;;
+        choices) options=$_asm_explore_choices_options ;;
+        clash) options=$_asm_explore_clash_options ;;
         help)
             COMPREPLY=($(compgen -W "$commands" -- "$current"))
             return
@@ -34,7 +41,13 @@ _asm_explore() {
             COMPREPLY=($(compgen -f -X '!*.script' -- "$current") $(compgen -d -- "$current"))
             return
             ;;
-        --steps | --turns | --states | --outcomes | --workers | --runs | --seed | --always | --deadlock-unless | --within) return ;;
+    esac
+    case $'
+'"$_asm_explore_plain"$'
+' in
+        *$'
+'"$before"$'
+'*) return ;;
     esac
     case "$current" in
         -*) COMPREPLY=($(compgen -W "$options" -- "$current")) ;;

@@ -1,4 +1,7 @@
 # Completion of the words of asm, for bash: source it, or let ./install put it where bash looks for it.
+# Made by share/man/make --write.
+_asm_options=$'--steps\n--script\n--turns\n--workers\n--cut\n--rounds\n--help\n--version'
+_asm_plain=$'--steps\n--turns\n--workers\n--cut\n--rounds'
 _asm() {
     local current="${COMP_WORDS[COMP_CWORD]}" before="${COMP_WORDS[COMP_CWORD - 1]}"
     COMPREPLY=()
@@ -16,11 +19,13 @@ _asm() {
             COMPREPLY=($(compgen -f -X '!*.script' -- "$current") $(compgen -d -- "$current"))
             return
             ;;
-        --steps | --turns | --workers | --cut | --rounds) return ;;
+    esac
+    case $'\n'"$_asm_plain"$'\n' in
+        *$'\n'"$before"$'\n'*) return ;;
     esac
     case "$current" in
         -*)
-            COMPREPLY=($(compgen -W $'--steps\n--script\n--turns\n--workers\n--cut\n--rounds\n--help\n--version' -- "$current"))
+            COMPREPLY=($(compgen -W "$_asm_options" -- "$current"))
             ;;
         *) COMPREPLY=($(compgen -f -X '!*.asm' -- "$current") $(compgen -d -- "$current")) ;;
     esac

@@ -3,9 +3,11 @@ import collections
 import pathlib
 import re
 
-from .maps import Names
+from .maps import Names, exports_of
 from .rattle_tokens import bound_in, is_word
+from .records import Records
 from .sources import DECLARED, DEFINITION, OTHER, PRIVATE, PUBLIC, read_tree
+from .terms import Implied, Member, Unreadable, normal
 
 LISTED, UNLISTED = "definitions that MODEL lists", "other definitions"
 GROUPS = {
@@ -21,24 +23,17 @@ VARIANT_ENDS = ("(", "{", ",", "}", "=")
 SHOWN = 60
 
 
-class Member(str):
-    """A field or a method behind a dot or in a literal, with all that it may be in the new tree.
-
-    A token doesn't say of which type it is, so that it is one of what fields of this name become.
-    """
-
-    def __new__(cls, text, options):
-        made = super().__new__(cls, text)
-        made.options = options
-        return made
-
-
 class Side:
     """A tree as it is compared: its names mapped, each as its whole path."""
 
-    def __init__(self, tree, names):
+    def __init__(self, tree, names, exports):
         self.names = names
         self.files, self.exports = read_tree(tree)
+        self.exports.update(exports)
+        model = pathlib.Path(tree, "docs/MODEL.md")
+        text = model.read_text(encoding="utf-8") if model.is_file() else ""
+        # The files with the definitions that MODEL lists.
+        self.listed = set(re.findall(r"[\w.]+\.antt", text))
         self.modules = {tuple(it.base) for it in self.files}
         # What becomes of the fields of a name that a crate sees, of those that all see, of methods,
         # and of ghost items of traits.
@@ -46,6 +41,8 @@ class Side:
         self.ghost_items = collections.defaultdict(set)
         # The items by what they are in the new tree, and what is wrong with names.
         self.items, self.together = {}, []
+        # The file and the item of each record, by its path there.
+        self.records = {}
         for file in self.files:
             for path in file.struct_fields:
                 crate = file.crate if path in file.hidden else ""
@@ -86,6 +83,8 @@ class Side:
                     if olds.setdefault(new, old) != old:
                         both = f"{olds[new]} and {old}"
                         self.together.append(f"{item.where}: {item.key}: {both} become one name")
+                if item.record:
+                    self.records["::".join(self.names.path(item.path))] = (file, item)
                 key, count = self.key(file, item), 1
                 while (*key, count) in self.items:
                     count += 1
@@ -198,16 +197,22 @@ class Side:
         return self.resolved(path) if path else None, at
 
 
+def compared(old_tree, new_tree, maps):
+    """Returns what differs between two trees, the names of the first mapped."""
+    exports = exports_of(maps)
+    return Comparison(Side(old_tree, Names(maps), exports), Side(new_tree, Names([]), exports))
+
+
 class Comparison:
     """What differs between two trees."""
 
-    def __init__(self, old_tree, new_tree, maps):
+    def __init__(self, old, new):
         self.said, self.counts = collections.defaultdict(list), collections.Counter()
         self.clauses, self.loose = collections.Counter(), []
-        old, new = Side(old_tree, Names(maps)), Side(new_tree, Names([]))
-        model = pathlib.Path(old_tree, "docs/MODEL.md")
-        text = model.read_text(encoding="utf-8") if model.is_file() else ""
-        self.listed = set(re.findall(r"[\w.]+\.antt", text))
+        # How many clauses are fields of records that one tree has, and their implicit arguments.
+        self.fields, self.implied = 0, []
+        self.records = (Records(old, new), Records(new, old))
+        self.listed = old.listed
         self.said[TOGETHER] = old.together
         for key, (item, parts) in old.items.items():
             self.counts[self.group(item)] += 1
@@ -229,28 +234,50 @@ class Comparison:
 
     def compare(self, item, parts, other, others):
         """Compares an item with what it is in the new tree."""
-        place = f"differs: {other.where}: {item.key}"
+        place, owners = f"{other.where}: {item.key}", {}
         if (item.group == PUBLIC) != (other.group == PUBLIC):
-            self.say(item, f"{place}: it is {other.group} now")
-        for part in [*parts, *(it for it in others if it not in parts)]:
+            self.say(item, f"differs: {place}: it is {other.group} now")
+        if item.group in (PUBLIC, PRIVATE):
+            parts, was = self.records[0].spread(parts, place)
+            others, now = self.records[1].spread(others, place)
+            owners = {part: (was.get(part), now.get(part)) for part in {**was, **now}}
+        for part in {**parts, **others}:
             one, two = parts.get(part), others.get(part)
             if one is None or two is None:
-                self.say(item, f"{place}: {part} is {'new' if one is None else 'missing'}")
-                continue
-            self.clauses[self.kind(item, part)] += 1
-            at = self.first(one, two)
-            if at is not None:
-                texts = (" ".join(it[max(0, at - 3) : at + 5]) for it in (one, two))
-                shown = " … → … ".join(texts)
-                self.say(item, f"{place}: {part}: … {shown} …")
-            self.loose += [
-                f"{other.where}: {item.key}: {part}: {was} is {now}"
-                for was, now in zip(one, two)
-                if isinstance(was, Member) and len(was.options) > 1
-            ]
-        order = [it for it in parts if it in others]
-        if order != [it for it in others if it in parts]:
-            self.say(item, f"{place}: its clauses are in another order")
+                self.say(item, f"differs: {place}: {part} is {'new' if one is None else 'missing'}")
+            else:
+                one, two = self.alike(one, two) if part in owners else (one, two)
+                self.compare_part(item, place, part, one, two)
+        both = [[it for it in some if it in parts and it in others] for some in (parts, others)]
+        for owner in {owners.get(it) for it in both[0]}:
+            order, order_now = ([it for it in some if owners.get(it) == owner] for some in both)
+            if order != order_now:
+                self.say(item, f"differs: {place}: its clauses are in another order")
+
+    def compare_part(self, item, place, part, one, two):
+        """Compares the tokens of a part, and notes what was let through for what they don't say."""
+        self.clauses[self.kind(item, part)] += 1
+        at = self.first(one, two)
+        if at is not None:
+            texts = (" ".join(it[max(0, at - 3) : at + 5]) for it in (one, two))
+            shown = " … → … ".join(texts)
+            self.say(item, f"differs: {place}: {part}: … {shown} …")
+        for was, now in zip(one, two):
+            if isinstance(was, Member) and len(was.options) > 1:
+                self.loose.append(f"{place}: {part}: {was} is {now}")
+            for it in (was, now):
+                line = f"{place}: {part}: {it} is {getattr(it, 'value', None)}"
+                if isinstance(it, Implied) and line not in self.implied:
+                    self.implied.append(line)
+
+    def alike(self, one, two):
+        """Returns what clauses are of which one is a field: what terms of one meaning share."""
+        try:
+            made = normal(one), normal(two)
+        except Unreadable:
+            return one, two
+        self.fields += 1
+        return made
 
     @staticmethod
     def kind(item, part):
@@ -263,7 +290,13 @@ class Comparison:
     def first(old, new):
         """Returns the first place where two lists of tokens differ, or None."""
         for at, (one, other) in enumerate(zip(old, new)):
-            if one != other if not isinstance(one, Member) else str(other) not in one.options:
+            if isinstance(other, Implied):
+                one, other = other, one
+            if isinstance(one, Implied):
+                is_same = one.takes(other)
+            else:
+                is_same = one == other if not isinstance(one, Member) else str(other) in one.options
+            if not is_same:
                 return at
         return min(len(old), len(new)) if len(old) != len(new) else None
 
@@ -283,3 +316,6 @@ class Comparison:
         counts = ", ".join(f"{n} {words.get(it, it)}" for it, n in sorted(self.clauses.items()))
         yield f"compared: {counts}"
         yield f"fields whose new name depends on their type: {len(self.loose)}"
+        yield from (f"not read: {it}" for records in self.records for it in records.unread)
+        counts = f"{self.fields}, with {len(self.implied)} implicit arguments"
+        yield f"clauses that are fields of records that one tree has: {counts}"

@@ -17,15 +17,18 @@ last name alone:
                      FILE.RECORD.FIELD    Listed.IsListed.order       a field of a record
     definition-file  FILE                 Listed                      Places or code/Places
     proof-file       FILE                 Listed                      Places or code/Places
+    export           FILE.NAME            Prelude.All                 List.All
 
 Several maps hold one after another: the names that are old to the second are new to the first.
+An export is no change, and holds for both trees: of two names of the toolchain's that mean the
+same, both count as the second.
 """
 import pathlib
 import re
 
 KINDS = (
     *("type", "function", "method", "constant", "variant", "variable", "field", "clause"),
-    *("module", "definition", "definition-file", "proof-file"),
+    *("module", "definition", "definition-file", "proof-file", "export"),
 )
 
 
@@ -42,6 +45,13 @@ def read_map(path):
     return rows
 
 
+def exports_of(maps):
+    """Returns what maps say of names that the toolchain exports, by their paths."""
+    rows = [row for rows in maps for row in rows if row[1] == "export"]
+    paths = [[["Rattle", row[0], "specs", *it.split(".")] for it in row[2:]] for row in rows]
+    return {tuple(old): new for old, new in paths}
+
+
 def without_lib(path):
     """Returns a path without the module lib, which paths don't name."""
     return (path[0], *path[2:]) if path[1:2] == ("lib",) else tuple(path)
@@ -53,6 +63,8 @@ class Step:
     def __init__(self, rows):
         self.paths, self.fields, self.locals, self.labels, self.known = {}, {}, {}, {}, {}
         for crate, kind, old, new in rows:
+            if kind == "export":
+                continue
             path = (crate, *old.replace("/", "::").split("::"))
             if kind in ("variable", "clause"):
                 path = ("Rattle", *path) if path[1] == "specs" else path

@@ -26,6 +26,7 @@ GHOST = re.compile(
     r"(?:requires|ensures|decreases|invariant)(?:\s+\w+)?\s*(?=\{)"
     r"|ghost\s+(?!use\b)\w+\s*[=:]\s*(?=\{)"
 )
+LETTER = re.compile(r"[^\W\d]")
 USE = re.compile(r"\bghost\s+use\b")
 COMMENT = re.compile(r"/\*|\*/")
 CLAUSES = ("requires", "ensures", "decreases", "invariant")
@@ -105,7 +106,7 @@ def closing(tokens, at):
 
 def is_word(token):
     """Returns whether a token is a name or a keyword."""
-    return bool(re.match(r"[^\W\d]", token)) and not getattr(token, "quoted", False)
+    return bool(LETTER.match(token)) and not getattr(token, "quoted", False)
 
 
 def imports(tokens):

@@ -5,7 +5,9 @@ What changes no meaning is let through, and all else is found.
 import pathlib
 import tempfile
 
-from .comparison import Comparison
+from . import record_trees
+from .comparison import Comparison, Side
+from .maps import Names, exports_of
 
 RT, ANTT = "src/tally.rt", "specs/Sizes.antt"
 TREE = {
@@ -175,6 +177,8 @@ EXCHANGED = [
     (RT, "{ half n ≡", "{ size n ≡"),
     (RT, "→ size self", "→ half self"),
 ]
+# The trees that were read.
+SIDES = {}
 # The fields of a struct are exchanged, and what a clause says of them isn't.
 FIELDS = [
     [("a", "field", "tally::Tally::count", "most"), ("a", "field", "tally::Tally::most", "count")],
@@ -198,21 +202,28 @@ def changed(texts, changes):
     return texts
 
 
-def compared(changes, maps, tree=None):
-    """Compares a tree with what changes make of it."""
-    before = tree or TREE
-    with tempfile.TemporaryDirectory() as folder:
-        for tree, texts in (("old", before), ("new", changed(before, changes))):
+def side(texts, names, exports):
+    """Returns a tree of these files as it is compared; the same is read once."""
+    key = (repr(texts), repr([vars(it) for it in names.steps]), repr(exports))
+    if key not in SIDES:
+        with tempfile.TemporaryDirectory() as folder:
             for file, text in texts.items():
-                path = pathlib.Path(folder, tree, "crates/a", file)
+                path = pathlib.Path(folder, "crates/a", file)
                 path.parent.mkdir(parents=True, exist_ok=True)
                 path.write_text(text, encoding="utf-8")
-        return Comparison(f"{folder}/old", f"{folder}/new", maps)
+            SIDES[key] = Side(folder, names, exports)
+    return SIDES[key]
+
+
+def compared(old, new, maps=()):
+    """Compares two trees."""
+    exports = exports_of(maps)
+    return Comparison(side(old, Names(maps), exports), side(new, Names([]), exports))
 
 
 def differences(changes, maps=()):
     """Returns how much differs if the new tree has these changes."""
-    return compared(changes, maps).differences()
+    return compared(TREE, changed(TREE, changes), maps).differences()
 
 
 def faults():
@@ -257,7 +268,7 @@ def faults():
             yield f"n became {name}: that isn't found"
     # Another record has a field of this name, too: then it is counted.
     before = changed(TREE, [(ANTT, "pub upper", "pub bound")])
-    if len(compared(RENAMED, MAPS, before).loose) != 1:
+    if len(compared(before, changed(before, RENAMED), MAPS).loose) != 1:
         yield "a field whose new name depends on its type: that isn't counted"
     # Two definitions become one.
     one = [[("a", "definition", "Sizes.half", "size")]]
@@ -265,11 +276,38 @@ def faults():
         yield "two definitions became one: that isn't found"
 
 
+def record_faults():
+    """Gives what isn't as it should be with clauses that are fields of records."""
+    parts, whole, records = record_trees.PARTS, record_trees.WHOLE, record_trees.RECORDS
+
+    def is_found(old=(), new=(), maps=()):
+        trees = changed(parts, old), changed(whole, new)
+        return compared(*trees, maps).differences() > records
+
+    for trees in ((parts, whole), (whole, parts)):
+        found = compared(*trees)
+        if found.differences() != records or found.fields != record_trees.FIELDS:
+            yield f"clauses that are fields of records: {list(found.lines())}"
+    for change in record_trees.SAME:
+        if is_found(new=[change]):
+            yield f"{change[1]!r} became {change[2]!r} in records: it differs"
+    for changes in (*([it] for it in record_trees.FOUND), *record_trees.FOUND_TOGETHER):
+        if not is_found(new=changes):
+            yield f"{changes[0][1]!r} became {changes[0][2]!r} in records: that isn't found"
+    for change in record_trees.FOUND_BEFORE:
+        if not is_found(old=[change]):
+            yield f"{change[1]!r} became {change[2]!r} before records: that isn't found"
+    for maps in ([], record_trees.EXPORTS):
+        if is_found(new=record_trees.EXPORTED, maps=maps) == bool(maps):
+            yield f"an exported name with {len(maps)} maps: that isn't as it should be"
+
+
 def run():
     """Tells what isn't as it should be, and returns the exit status."""
-    found = list(faults())
+    found = [*faults(), *record_faults()]
     for line in found:
         print(f"self-test: {line}")
     if not found:
-        print(f"self-test: {len(CHANGED)} changes are found, and all as it should be")
+        count = len(CHANGED) + len(record_trees.FOUND)
+        print(f"self-test: {count} changes are found, and all as it should be")
     return 1 if found else 0

@@ -22,6 +22,9 @@ class Item:
         self.bound, self.fields = set(), set()
         # Of a ghost item the path of the trait that has it, as the file names that, and its name.
         self.trait = None
+        # Of a definition the heads of the modules around it; of a record its own head, and each
+        # field's name, with its type and whether it is public.
+        self.heads, self.record = [], None
 
 
 class File:
@@ -150,12 +153,13 @@ class File:
         item.bound = bound_in(tokens[fn:signature_end])
         if owner:
             self.methods.add(item.path)
-        last = closing(tokens, place) if place < end and tokens[place] == "{" else place
+        last, count = closing(tokens, place) if place < end and tokens[place] == "{" else place, 0
         for it in range(place, last - 2):  # the clauses in its body, of closures and loops
             if tokens[it] in CLAUSES and not tokens[it].ghost and "{" in tokens[it + 1 : it + 3]:
                 brace = it + 1 + (tokens[it + 1] != "{")
                 clause = tokens[it + 1 : brace] + tokens[brace + 1 : closing(tokens, brace)]
-                parts[f"{tokens[it]} inside {len(parts)}"] = clause
+                count += 1
+                parts[f"{tokens[it]} inside {count}"] = clause
         return last
 
     def add(self, key, group, first, parts, owner, name):
@@ -171,28 +175,9 @@ class File:
 
     def read_entries(self, text, tokens):
         """Reads the definitions of a .antt file, each with the heads of the modules around it."""
-
-        def column(token):
-            return token.at - text.rfind("\n", 0, token.at) - 1
-
-        blocks, chunk, chunks, starts, line = [], [], [], set(), 0
-        for token in tokens:
-            if token.line != line:
-                starts.add(id(token))
-                while blocks and column(token) <= blocks[-1][0]:
-                    blocks.pop()
-                if blocks and blocks[-1][2] is None:
-                    blocks[-1] = (*blocks[-1][:2], column(token))
-                if column(token) == (blocks[-1][2] if blocks else 0):
-                    chunk = []
-                    chunks.append((chunk, [it for block in blocks for it in block[1]]))
-            line = token.line
-            chunk.append(token)
-            is_block = token == "where" and chunk[0] == "module"
-            if is_block or token == "mutual" and len(chunk) < 3:
-                blocks.append((column(chunk[0]), chunks.pop()[0], None))
+        chunks, starts = chunks_of(text, tokens)
         entries, last = {}, None
-        for chunk, context in chunks:
+        for chunk, heads in chunks:
             if "use" in chunk[:2]:
                 self.take_use(chunk)
                 continue
@@ -205,7 +190,9 @@ class File:
             if last not in entries:
                 path = (*self.base, last)
                 where = f"{self.path}:{chunk[0].line}"
-                entries[last] = Item(last, DEFINITION, where, {"text": [*context]}, path, path)
+                parts = {"text": [it for head in heads for it in head]}
+                entries[last] = Item(last, DEFINITION, where, parts, path, path)
+                entries[last].heads = [it for it in heads if it[0] == "module"]
             entries[last].parts["text"] += chunk
             self.read_inner(entries[last], chunk, starts)
         self.ghosts.update((name, [*self.base, name]) for name in entries)
@@ -216,13 +203,49 @@ class File:
         heads = {"data", "record"} & set(chunk[:4]) if chunk[0] in ENTRY else ()
         if not heads:
             return
-        for before, it, behind in zip(chunk, chunk[1:], chunk[2:]):
+        places = []  # of fields
+        for at, (before, it, behind) in enumerate(zip(chunk, chunk[1:], chunk[2:]), 1):
             if behind == ":" and (id(it) in starts or before in ENTRY and id(before) in starts):
                 if "data" in heads:
                     self.ghosts.setdefault(str(it), [*self.base, str(it)])
                 elif it.line != chunk[0].line:
                     self.fields.add((*item.path, str(it)))
                     item.fields.add(id(it))
+                    places.append(at)
+        if places:
+            starts_at = [it - (chunk[it - 1] in ENTRY) for it in places]
+            ends = [*starts_at[1:], len(chunk)]
+            fields = [
+                (chunk[at], chunk[at + 2 : end], chunk[at - 1] == "pub")
+                for at, end in zip(places, ends)
+            ]
+            item.record, item.bound = (chunk[: starts_at[0]], fields), bound_in(item.parts["text"])
+
+
+def chunks_of(text, tokens):
+    """Returns the declarations and the cases of a .antt file, each with the heads of the blocks
+    around it; and which tokens begin a line."""
+
+    def column(token):
+        return token.at - text.rfind("\n", 0, token.at) - 1
+
+    blocks, chunk, chunks, starts, line = [], [], [], set(), 0
+    for token in tokens:
+        if token.line != line:
+            starts.add(id(token))
+            while blocks and column(token) <= blocks[-1][0]:
+                blocks.pop()
+            if blocks and blocks[-1][2] is None:
+                blocks[-1] = (*blocks[-1][:2], column(token))
+            if column(token) == (blocks[-1][2] if blocks else 0):
+                chunk = []
+                chunks.append((chunk, [block[1] for block in blocks]))
+        line = token.line
+        chunk.append(token)
+        is_block = token == "where" and chunk[0] == "module"
+        if is_block or token == "mutual" and len(chunk) < 3:
+            blocks.append((column(chunk[0]), chunks.pop()[0], None))
+    return chunks, starts
 
 
 def read_tree(tree):

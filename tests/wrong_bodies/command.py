@@ -7,6 +7,7 @@ import signal
 import sys
 
 from . import toolchain
+from .carrying import carry_over
 from .failure import Failure
 from .trying import tell_groups, tell_stale, try_all, try_sample
 
@@ -15,6 +16,8 @@ Tries the wrong bodies wrong/CRATE/NAME.edit, several of a crate in one check: e
 refused by a goal of the function that it changes. Which goal that is, it writes to
 wrong/CRATE/tried. Without words it tries what isn't as it was tried last."""
 WORDS = "a crate, or CRATE/NAME for one wrong body, which is tried in any case"
+CARRY = """take over what the records of a commit say of functions that are as they were there,
+once tests/compare_contracts has found no contract and no definition that differs"""
 MODES = {
     "--stale": "only say which crates' wrong bodies aren't as they were tried",
     "--sample": "try one group anew, which the records choose, and compare",
@@ -41,6 +44,7 @@ def parsed(words):
     parser.add_argument("--anew", action="store_true", help="try all, also what was tried")
     parser.add_argument("--jobs", type=int, metavar="N", help="how many checks run side by side")
     modes = parser.add_mutually_exclusive_group()
+    modes.add_argument("--carry", metavar="COMMIT", help=CARRY)
     for mode, text in MODES.items():
         modes.add_argument(mode, action="store_true", help=text)
     return parser.parse_args(words)
@@ -50,7 +54,8 @@ def run(root, words):
     """Does what the words say, and returns the exit status."""
     given = parsed(words)
     lanes = given.jobs or default_lanes()
-    if given.words and (given.stale or given.sample or given.groups or given.self_test):
+    is_mode = given.stale or given.sample or given.groups or given.self_test or given.carry
+    if given.words and is_mode:
         raise Failure("crates are named only where wrong bodies are tried")
     if lanes < 1:
         raise Failure("--jobs takes a number from 1 on")
@@ -61,6 +66,8 @@ def run(root, words):
         return try_sample(root, lanes)
     if given.groups:
         return tell_groups(root)
+    if given.carry:
+        return carry_over(root, given.carry)
     if given.self_test:
         from . import self_test
 

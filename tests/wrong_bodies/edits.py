@@ -118,5 +118,14 @@ def texts_of(root, crate):
 
 
 def sources_of(texts):
-    """Returns the sources among a crate's texts, read, by their paths."""
-    return {file: Source(file, text) for file, text in texts.items() if file.startswith("src/")}
+    """Returns the sources among a crate's texts, read, by their paths.
+
+    A check names a method by the module of its type, wherever the `impl` stands.
+    """
+    found = {file: Source(file, text) for file, text in texts.items() if file.startswith("src/")}
+    homes = {name: source.module for source in found.values() for name in source.types()}
+    for source in found.values():
+        for method in source.functions:
+            if not method.trait and method.owner not in source.types():
+                method.module = homes.get(method.owner, method.module)
+    return found

@@ -217,6 +217,11 @@ class Source:
         """Returns the tokens that the crates above can see, as far as they matter to these."""
         return without_unused(self.shown)
 
+    def types(self):
+        """Returns the names of the types that it declares."""
+        pairs = zip(self.around, self.around[1:])
+        return {str(name) for word, name in pairs if word in ("struct", "enum")}
+
     def read_items(self, at, end, module, owner, trait):
         """Reads the items between two places."""
         cycle = ""

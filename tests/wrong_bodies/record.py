@@ -99,14 +99,17 @@ def has_any(root, crate):
 class Record:
     """What wrong/CRATE/tried says."""
 
-    def __init__(self, crate, toolchain, sources, tried):
+    def __init__(self, crate, toolchain, sources, tried, carried=()):
         self.crate, self.toolchain, self.sources = crate, toolchain, sources
         # By each edit's name its digest, and the function and the goal that refused it.
         self.tried = tried
+        # The names of those that were tried on other sources.
+        self.carried = set(carried)
 
     def text(self):
         """Returns the file's text, which ends in a sum of what stands before."""
         lines = [f"toolchain: {self.toolchain}", f"sources: {self.sources}"]
+        lines += [f"carried: {' '.join(sorted(self.carried))}"] * bool(self.carried)
         lines += [f"{name}: {' '.join(self.tried[name])}" for name in sorted(self.tried)]
         text = HEAD.format(crate=self.crate) + "".join(f"{line}\n" for line in lines)
         return f"{text}sum: {hashlib.sha256(text.encode()).hexdigest()}\n"
@@ -142,9 +145,11 @@ def record_of(root, crate):
         toolchain, sources = said.pop("toolchain"), said.pop("sources")
     except KeyError:
         return None, f"{path} isn't whole"
+    carried = said.pop("carried", "").split()
     tried = {name: words.split(" ", 2) for name, words in said.items()}
-    made = Record(crate, toolchain, sources, tried)
-    if made.text() != text or any(len(it) != 3 for it in tried.values()):
+    made = Record(crate, toolchain, sources, tried, carried)
+    is_whole = all(len(it) == 3 for it in tried.values()) and made.carried <= tried.keys()
+    if made.text() != text or not is_whole:
         return None, f"{path} isn't as it was written"
     return made, None
 

@@ -8,11 +8,12 @@ import io
 import os
 import re
 import shutil
+import subprocess
 import tempfile
 
 from . import command, toolchain
 from .edits import PARTS, RECORD
-from .record import Tree, record_of
+from .record import Record, Tree, record_of
 from .trying import Crate, try_group
 
 CRATE = "asm_state"
@@ -153,6 +154,32 @@ def records(test):
     test.expect_run("an old text that stands twice does", ["--stale"], 1, f"{OTHER}.*2 times")
     test.write(source, f"{text}\nconst NOTHING: u64 = 0;\n")
     test.expect_run("a changed source makes it stale", ["--stale"], 1, "sources or definitions")
+    test.write(source, text)
+
+
+def carried(test):
+    """A record holds for functions that are as they were, and only for those."""
+
+    def git(*words):
+        name = ["-c", "user.name=Test", "-c", "user.email=test@localhost"]
+        command = ["git", "-C", test.root, *name, *words]
+        subprocess.run(command, check=True, stdout=subprocess.DEVNULL)
+
+    tree, source = Tree(test.root), f"crates/{CRATE}/src/state.rt"
+    tried = {it.name: [it.digest, "state::some", "goal"] for it in Crate(tree, CRATE).edits}
+    Record(CRATE, toolchain.version(), tree.digest(CRATE), tried).write(test.root)
+    git("init", "-q")
+    git("add", "crates.txt", "HANDLES", "wrong", *(f"crates/{CRATE}/{it}" for it in PARTS))
+    git("commit", "-qm", "tried")
+    text, old = test.read(source), EDITS[OTHER][1]
+    test.write(source, f"{text}\nconst NOTHING: u64 = 0;\n")
+    test.expect_run("what is as it was is carried over", ["--carry", "HEAD"], 0, "tried: none\n")
+    test.expect_run("which is counted", ["--stale"], 0, f"carried over: {len(tried)}\n")
+    test.write(source, text.replace(old, f"{{ let _same = 0; {old} }}"))
+    test.expect_run("what changed isn't", ["--carry", "HEAD"], 0, f"tried: {OTHER}\n")
+    test.expect_run("and is stale", ["--stale"], 1, f"not refused: {OTHER}\n")
+    test.expect_run("a commit that isn't there", ["--carry", "nowhere"], 2, "no commit")
+    test.write(source, text)
 
 
 # A source of a crate below, and what changes in it.
@@ -213,6 +240,7 @@ def run(root):
         bad_input(test)
         harmless_edit(test)
         records(test)
+        carried(test)
         crates_below(test)
     print(f"wrong-bodies --self-test: {test.failed} failed")
     return 1 if test.failed else 0

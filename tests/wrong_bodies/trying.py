@@ -27,15 +27,17 @@ class Crate:
         return groups_of(self.edits if edits is None else edits, self.sources)
 
     def tried_before(self, digest, identity):
-        """Returns what the record says of edits that are as they were tried.
+        """Returns what the record says of edits that are as they were tried, and which of them
+        were tried on other sources.
 
         It has to be of these sources and of this toolchain.
         """
         found, _ = record_of(self.tree.root, self.name)
         if not found or found.sources != digest or found.toolchain != identity:
-            return {}
+            return {}, set()
         digests = {it.name: it.digest for it in self.edits}
-        return {it: words for it, words in found.tried.items() if words[0] == digests.get(it)}
+        same = {it: words for it, words in found.tried.items() if words[0] == digests.get(it)}
+        return same, found.carried & same.keys()
 
 
 def only_names(edits):
@@ -105,7 +107,7 @@ def try_crate(tools, crate, names, anew, lanes):
     """
     began, failed = time.monotonic(), 0
     digest, identity = crate.tree.digest(crate.name), toolchain.version()
-    tried = {} if anew else crate.tried_before(digest, identity)
+    tried = {} if anew else crate.tried_before(digest, identity)[0]
     edits = [it for it in crate.edits if it.name in names or not names and it.name not in tried]
     groups = crate.groups(edits)
     for verdicts in try_groups(tools, crate, groups, lanes) if edits else [[]]:
@@ -123,12 +125,13 @@ def try_crate(tools, crate, names, anew, lanes):
 
 def keep(crate, digest, identity, verdicts):
     """Writes what some edits came to into the record, beside what it says of others by now."""
-    tried = crate.tried_before(digest, identity)
+    tried, carried = crate.tried_before(digest, identity)
     for it in verdicts:
         tried.pop(it.edit.name, None)
+        carried.discard(it.edit.name)
         if it.is_refused():
             tried[it.edit.name] = [it.edit.digest, it.goal.function, it.goal.name]
-    Record(crate.name, identity, digest, tried).write(crate.tree.root)
+    Record(crate.name, identity, digest, tried, carried).write(crate.tree.root)
 
 
 def try_all(root, words, anew, lanes):
@@ -159,12 +162,16 @@ def try_all(root, words, anew, lanes):
 
 def tell_stale(root):
     """Says which crates' wrong bodies aren't as they were tried, and returns the status."""
-    tree, identity, stale = Tree(root), toolchain.version(), []
+    tree, identity, stale, carried = Tree(root), toolchain.version(), [], 0
     for name in tree.crates_with_edits():
         why = why_stale(tree, name, edits_of(root, name), identity)
         if why:
             stale.append(name)
             print(f"wrong/{name}: {why}")
+        else:
+            carried += len(record_of(root, name)[0].carried)
+    if carried:
+        print(f"tried on other sources, and carried over: {carried}")
     if stale:
         print(f"try them anew: ./wrong-bodies {' '.join(stale)}")
     return 1 if stale else 0

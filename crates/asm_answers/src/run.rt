@@ -4,7 +4,7 @@
 //! is one from its first byte on, then a colon and the name of the case.
 use crate::parts::Parts;
 use crate::refusal;
-use asm_limits::run_limits::Limits;
+use asm_limits::run_limits::{DEFAULTS, Limits};
 use asm_run::end::End;
 use asm_run::run::run;
 use asm_run::through::Through;
@@ -14,10 +14,7 @@ use std::thread::Threads;
 /// The limits of a case that doesn't say others, if one worker makes the run.
 const ALONE: Limits = Limits {
     steps: 1,
-    turns: 1000,
-    workers: 1,
-    cut: 64,
-    rounds: 4,
+    ..DEFAULTS
 };
 
 /// Those if workers share it.

@@ -24,10 +24,10 @@ no_plus (d ∷ ds) h =
     let plus : (d == 43) ≡ false = ne_eqb _ _ (λ e. omega (arith, digit_from_value d h.1.0)) in
     ap (λ (b : Bool). drop (cond b 1 0) (d ∷ ds)) plus
 
-pub read_number : (E : Type 0) (G : List ℕ → Result ℕ E → Type 0) (k most : ℕ) (t : List ℕ) (r : Option ℕ)
+pub read_number : (E : Type 0) (G : List ℕ → Result ℕ E → Type 0) (k least most : ℕ) (t : List ℕ) (r : Option ℕ)
     → ReadsOne G (without_minus t) r → ((u : List ℕ) (x : Result ℕ E) → G u x → ParsesUnsigned k 10 u x) → most < 2 ^ k
-    → IsSignedIn (pos 0) (pos most) t → (n : ℕ) × (r ≡ Some n) × (signed_digits_value 10 t ≡ pos n)
-read_number E G k most t r read only fits passed =
+    → IsSignedIn (pos least) (pos most) t → (n : ℕ) × (r ≡ Some n) × (signed_digits_value 10 t ≡ pos n)
+read_number E G k least most t r read only fits passed =
     go (starts_with_minus t) refl r (subst (λ (u : List ℕ). ReadsOne G u r) (minus_is_cut t) read)
   where
     go : (b : Bool) → starts_with_minus t ≡ b → (o : Option ℕ) → ReadsOne G (cond (starts_with_minus t) (drop 1 t) t) o

@@ -9,3 +9,4 @@ pub mod RulesWithResult
 pub mod Scopes
 pub mod TextsInSets
 pub mod UseFaults
+pub mod UsesCollected

@@ -1,10 +1,11 @@
 //! Whether a specification is well formed, and the fault that is first in it if it isn't.
 //!
 //! No pass stops at its first fault: each notes what it finds in one `LeastFault`, which keeps the
-//! least fault, so what is found doesn't depend on the order of the passes. The table of names
-//! comes first (`first_names`). Then `declaration_bodies` goes through each body: whether `result`
-//! is in it, and to which declarations its calls and uses lead. After that come main rules
-//! (`main_rule`, `rules_with_result`), uses (`uses`, `use_faults`, `rules_with_result`), limits
+//! least fault, so what is found doesn't depend on the order of the passes. The uses of names are
+//! collected first, once in each item (`declaration_uses`, `collector`). The table of names
+//! (`first_names`) has those of a body beside the body. Then `declaration_bodies` says of each body
+//! whether `result` is in it, and to which declarations its calls and uses lead. After that come
+//! main rules (`main_rule`, `rules_with_result`), uses (`use_faults`, `rules_with_result`), limits
 //! (`limit_faults`), entries of tables (`entry_faults`) and cycles (`step_faults`). If there is no
 //! fault, the declarations of the same table get their numbers (`numbering`, `numbered_names`), and
 //! the signature is built with these (`declared_signature`).
@@ -23,6 +24,7 @@ ghost use Rattle.asm_check.specs.Names.{first_declarations};
 ghost use Rattle.asm_check.specs.code.numbers.NumberTables.{IsNumberingOf};
 ghost use Rattle.asm_check.specs.code.LeastFaults.{IsLeastOf, least_after as noted_after};
 ghost use Rattle.asm_check.specs.code.names.Tables.{IsTableOf};
+ghost use Rattle.asm_check.specs.code.uses.UseViews.{AreUsesOf};
 
 use crate::checked::Checked;
 use crate::cycles::declaration_bodies::bodies_of;
@@ -34,6 +36,7 @@ use crate::names::first_names::first_names;
 use crate::names::name_table::NameTable;
 use crate::numbers::numbering::Numbering;
 use crate::tables::entry_faults::note_entries;
+use crate::uses::declaration_uses::{Use, uses_of_items};
 use crate::uses::main_rule::note_inits;
 use crate::uses::rules_with_result::note_main_rules_with_result;
 use crate::uses::use_faults::note_uses;
@@ -61,9 +64,27 @@ fn numbered(alloc: Global, spec: &Spec) -> Result<Numbering, InputError<CheckErr
     ensures refused { IfErr result (Explains (spec_of spec.now)) }
     ensures good { IsWellFormed (spec_of spec.now) → IfErr result (λ e. e ≡ Memory) }
 {
+    let uses = uses_of_items(alloc, &spec.items)?;
+    numbered_by(alloc, spec, &uses)
+}
+
+/// The same, by the uses in the items.
+fn numbered_by(
+    alloc: Global,
+    spec: &Spec,
+    uses: &[Vec<Use>],
+) -> Result<Numbering, InputError<CheckError>>
+    requires { AreUsesOf (spec_of spec.now).items uses.now }
+    ensures numbered { IfOk result (IsNumberingOf (first_declarations (spec_of spec.now))) }
+    ensures well_formed { OnOk result (IsWellFormed (spec_of spec.now)) }
+    ensures refused { IfErr result (Explains (spec_of spec.now)) }
+    ensures good { IsWellFormed (spec_of spec.now) → IfErr result (λ e. e ≡ Memory) }
+{
+    let spec = &*spec;
+    let uses = &*uses;
     let mut least = LeastFault::new();
-    let names = first_names(alloc, spec, &mut least)?;
-    match least_fault(alloc, spec, &names, least)? {
+    let names = first_names(alloc, spec, uses, &mut least)?;
+    match least_fault(alloc, spec, &names, uses, least)? {
         Some(fault) => Err(InputError::Named(fault)),
         None => Ok(Numbering::of(alloc, &names)?),
     }
@@ -75,9 +96,11 @@ fn least_fault(
     alloc: Global,
     spec: &Spec,
     names: &NameTable,
+    uses: &[Vec<Use>],
     noted: LeastFault,
 ) -> Result<Option<CheckError>, AllocError>
     requires table { IsTableOf (spec_of spec.now) names.now }
+    requires uses { AreUsesOf (spec_of spec.now).items uses.now }
     requires twice { found_of noted.found ≡ noted_after None (twice_faults (spec_of spec.now)) }
     ensures { IfOk result (λ found. IsLeastOf (IsFault (spec_of spec.now)) (found_of found)) }
 {
@@ -86,7 +109,7 @@ fn least_fault(
     let with_result = bodies.answering.as_slice();
     note_inits(spec, names, &mut least);
     note_main_rules_with_result(spec, names, with_result, &mut least);
-    note_uses(alloc, spec, names, with_result, &mut least)?;
+    note_uses(names, with_result, uses, &mut least);
     note_limits(alloc, spec, names, &mut least)?;
     note_entries(alloc, spec, names, &mut least)?;
     // The search for cycles comes last: it looks only at what is before the

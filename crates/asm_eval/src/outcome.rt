@@ -11,8 +11,7 @@ use crate::form::form;
 use crate::frame::Frame;
 use crate::regions::{OnThisThread, Regions};
 use asm_code::rule_code::RuleCode;
-use asm_meaning::Outcome;
-use asm_meaning::new_forming::{new_forming, outcome_of};
+use asm_meaning::{Forming, Outcome};
 use asm_reader::Picks;
 use std::alloc::{AllocError, Global};
 
@@ -32,9 +31,9 @@ pub fn outcome<'e, P: Picks, G: Regions<P>>(
     ensures ready { G.is_ready regions.new }
     ensures formed { IfOk result (IsFormed (evaluation_shape evaluation.now) (rule_at evaluation.now frame.now path.now (rule_of rule.now))) }
 {
-    let mut forming = new_forming(alloc, evaluation.view.signature, path)?;
+    let mut forming = Forming::at(alloc, evaluation.view.signature, path)?;
     let formed = form(alloc, regions, evaluation, frame, rule, &mut forming);
-    outcome_of(forming, formed)
+    forming.into_outcome(formed)
 }
 
 /// What the rule yields at this path, under the frame, all of it on this thread.

@@ -13,7 +13,6 @@ use crate::form::{form, form_span};
 use crate::frame::Frame;
 use crate::regions::OnThisThread;
 use asm_code::rule_code::RuleCode;
-use asm_meaning::new_forming::{new_forming, outcome_of};
 use asm_meaning::{Forming, Outcome, Part, Path, Stopped};
 use asm_reader::Picks;
 use std::alloc::{AllocError, Global};
@@ -38,9 +37,9 @@ pub fn whole_piece<P: Picks>(
     requires { IsPiece (evaluation_shape evaluation.now) piece.now }
     ensures { IfOk result (IsFormed (evaluation_shape evaluation.now) (piece_yields evaluation.now piece.now)) }
 {
-    let mut forming = new_forming(alloc, evaluation.view.signature, &[])?;
+    let mut forming = Forming::at(alloc, evaluation.view.signature, &[])?;
     let formed = form_piece(alloc, evaluation, piece, &mut forming);
-    outcome_of(forming, formed)
+    forming.into_outcome(formed)
 }
 
 /// Forms what a piece yields, at the piece's own path: wherever the forming stood, it goes there

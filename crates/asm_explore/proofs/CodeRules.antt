@@ -136,9 +136,6 @@ module _ (shape : Shape) (turns : ℕ) (chosen : Path → ℕ) (rs : List Readin
   seq_yields P Ps is Qs same =
       ap (λ Qs. in_order (meanings shape turns chosen (rules_of (map rule_of Qs)) rs ls) 0 A nothing_bound p) same ∙ sym (ap yields (seq_form P Ps is))
 
-  pub iterate_yields : (P : RuleCode) (Q : Box RuleCode Global) → P ≡ code.Iterate Q → (S : RuleCode) → S ≡ Q.value → yields (tree.Iterate (rule_of S)) ≡ yields (rule_of P)
-  iterate_yields P Q is S same = ap yields (iterate_tree P Q is S same)
-
   -- ---- the same by the codes of the parts
 
   pub if_yes : (c : Code) (S N : RuleCode) → is_true (reading shape (code_of c) rs A) ≡ true → yields_at 0 S ≡ yields (tree.If (code_of c) (rule_of S) (rule_of N))
@@ -171,25 +168,8 @@ module _ (shape : Shape) (turns : ℕ) (chosen : Path → ℕ) (rs : List Readin
       ∙ (λ i. meaning shape turns chosen (rule_of S) (result_readings (there i) ++ sym (named_are shape rs us) i) (result_locations (there i)) A (at p 0))
 
   -- and of the whole rule
-  pub if_is : (P : RuleCode) (c : Code) (Q R : Box RuleCode Global) → P ≡ code.If c Q R → (d : Code) (S N : RuleCode) → d ≡ c → S ≡ Q.value → N ≡ R.value → yields (tree.If (code_of d) (rule_of S) (rule_of N)) ≡ yields (rule_of P)
-  if_is P c Q R is d S N same same' same'' = ap yields (if_tree P c Q R is d S N same same' same'')
-
-  pub let_is : (P : RuleCode) (t : Code) (Q : Box RuleCode Global) → P ≡ code.Let t Q → (u : Code) (S : RuleCode) → u ≡ t → S ≡ Q.value → yields (tree.Let (code_of u) (rule_of S)) ≡ yields (rule_of P)
-  let_is P t Q is u S same same' = ap yields (let_tree P t Q is u S same same')
-
-  pub choose_is : (P : RuleCode) (u : ℕ) (c : Option Code) (Q R : Box RuleCode Global) → P ≡ code.Choose u c Q R → (d : Option Code) (S N : RuleCode) → d ≡ c → S ≡ Q.value → N ≡ R.value
-      → yields (tree.Choose u (option_map code_of d) (rule_of S) (rule_of N)) ≡ yields (rule_of P)
-  choose_is P u c Q R is d S N same same' same'' = ap yields (choose_tree P u c Q R is d S N same same' same'')
-
-  pub forall_is : (P : RuleCode) (u : ℕ) (c : Option Code) (Q : Box RuleCode Global) → P ≡ code.Forall u c Q → (d : Option Code) (S : RuleCode) → d ≡ c → S ≡ Q.value → yields (tree.Forall u (option_map code_of d) (rule_of S)) ≡ yields (rule_of P)
-  forall_is P u c Q is d S same same' = ap yields (forall_tree P u c Q is d S same same')
-
   pub assign_is : (P : RuleCode) (to : TargetCode) (t : Code) → P ≡ code.Assign to t → (place : TargetCode) (u : Code) → place ≡ to → u ≡ t → yields (tree.Assign (target_code_of place) (code_of u)) ≡ yields (rule_of P)
   assign_is P to t is place u same same' = (λ i. yields (tree.Assign (target_code_of (same i)) (code_of (same' i)))) ∙ sym (ap yields (assign_form P to t is))
-
-  pub call_is : (P : RuleCode) (body : _) (to : Option TargetCode) (ts : Vec Code Global) → P ≡ code.Call body to ts → (S : RuleCode) (d : Option TargetCode) (us : List Code) → S ≡ arc_value body → d ≡ to → us ≡ ts.items
-      → yields (tree.Call (rule_of S) (option_map target_code_of d) (codes_of (map code_of us))) ≡ yields (rule_of P)
-  call_is P body to ts is S d us same same' are = ap yields (call_tree P body to ts is S d us same same' are)
 
   -- ---- parts
 

@@ -4,6 +4,7 @@ pub mod ChoiceLists
 pub mod FullLists
 pub mod LeadingOutcomes
 pub mod ListLemmas
+pub mod ListedRules
 pub mod MarkedSets
 pub mod OverLimit
 pub mod RefusedParts

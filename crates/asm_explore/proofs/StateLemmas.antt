@@ -1,4 +1,5 @@
 -- Free. The states that a search has reached.
+pub mod AddedNodes
 pub mod Batches
 pub mod Bytes
 pub mod MoreNodes

@@ -1,4 +1,5 @@
 -- Bridge to the code. What connects the definitions of this crate to its code.
+pub mod AddedNodes
 pub mod AskedPieces
 pub mod ByteValues
 pub mod ChoiceLaws
@@ -9,6 +10,7 @@ pub mod ChoicesMadeSoFar
 pub mod ExploredRules
 pub mod FaultMarks
 pub mod ListElements
+pub mod ListedRules
 pub mod MainRule
 pub mod OutcomeLists
 pub mod OverLimit

@@ -12,12 +12,13 @@ ghost use Rattle.asm_explore.specs.code.StepsAhead.{AreAhead, IsAhead};
 ghost use Rattle.asm_explore.specs.declared.search_result.SearchEnd.TheVariants.{Closed, AtLimit, TooManyStates};
 ghost use Rattle.asm_explore.specs.declared.search_error.SearchError.TheVariants as halt;
 ghost use Rattle.asm_explore.specs.declared.outcomes.listed_outcome.ListedOutcome.{ListedOutcome};
+ghost use Rattle.asm_explore.specs.code.AddedNodes.{AddsNodes, CanAdd, CanExpand, ExpandsNode, ListsQuiet};
 ghost use Rattle.asm_explore.specs.code.PackedNodes.{Node};
-ghost use Rattle.asm_explore.specs.code.SearchEnds.{HaltsSo, IfBad, IfOverLimit, IsDone};
+ghost use Rattle.asm_explore.specs.code.SearchEnds.{IfBad, IfOverLimit, IsDone};
 ghost use Rattle.asm_explore.specs.code.OutcomeLists.{Each, Shows, HaveChoices, AreCounted, IsCounted};
 ghost use Rattle.asm_explore.specs.code.ChoicePaths.{HaveOwnPaths};
-ghost use Rattle.asm_explore.specs.code.ReachedStates.{AreBegun, AreInside, AtNode, Known, IsNear, IsGood, Extends, FollowsStep, Expanded, IsLinked, IsLooked, IsOutcome, IsBadStep, IsStopped, LeadsTo, Rises, GoesWrongSo, state_at};
-ghost use Rattle.asm_explore.specs.code.QuietStates.{IsFirstQuiet, IsRested, RestsSo};
+ghost use Rattle.asm_explore.specs.code.ReachedStates.{AreInside, AtNode, Known, IsNear, IsGood, FollowsStep, IsLinked, IsLooked, IsOutcome, IsBadStep, IsStopped, LeadsTo, Rises, GoesWrongSo, state_at};
+ghost use Rattle.asm_explore.specs.code.QuietStates.{IsFirstQuiet, IsRested};
 ghost use Rattle.asm_explore.specs.Search.{LeadsOn, IsQuiet, IsDeadlock, IsSafeUpTo, IsSafe, HoldsBefore, HoldsAlways};
 ghost use Rattle.asm_explore.specs.code.StepOutcomes.{IsOverLimitOf, IsStep};
 
@@ -66,18 +67,12 @@ fn reach<M: Machine>(
     nodes: &mut Nodes,
 ) -> Result<bool, SearchError>
     requires machine { M.is_sound machine.now }
+    requires ready { CanAdd (M.shape machine.now) (M.right machine.now) from below limit nodes.old }
     requires state { IsStateOf (M.shape machine.now) state.now }
-    requires from { from < length nodes.old }
-    requires room { length nodes.old ≤ limit }
-    requires nodes { Each (IsGood (M.shape machine.now) (M.right machine.now)) nodes.old }
-    requires near { Each (λ n. n.depth ≤ below) nodes.old }
     requires leads { LeadsTo (M.shape machine.now) (M.specification machine.now) (M.turns machine.now) nodes.old from below (state_of (M.shape machine.now) state.now) }
-    ensures extends { Extends (M.shape machine.now) (M.specification machine.now) (M.turns machine.now) (M.right machine.now) below nodes.old nodes.new }
-    ensures begun { AreBegun from nodes.old nodes.new }
-    ensures room { length nodes.new ≤ limit }
+    ensures adds { AddsNodes (M.shape machine.now) (M.specification machine.now) (M.turns machine.now) (M.right machine.now) from below limit nodes.old nodes.new result }
     ensures known { IfOk result (λ fine. IsTrue fine → Known (M.shape machine.now) nodes.new below (state_of (M.shape machine.now) state.now)) }
     ensures wrong { IfOk result (λ fine. fine ≡ false → (M.right machine.now) (state_of (M.shape machine.now) state.now) ≡ false) }
-    ensures full { IfErr result (HaltsSo (limit ≤ length nodes.new) (λ _. ⊥)) }
 {
     let count = machine.signature().count();
     if is_reached(nodes, index, hash, state, count) {
@@ -108,22 +103,16 @@ fn follow<M: Machine>(
     nodes: &mut Nodes,
 ) -> Result<Option<Fault>, SearchError>
     requires machine { M.is_sound machine.now }
-    requires from { from < length nodes.old }
+    requires ready { CanAdd (M.shape machine.now) (M.right machine.now) from below limit nodes.old }
     requires state { IsStateOf (M.shape machine.now) state.now }
     requires here { (n : Node) → slice_get nodes.old from ≡ Some n → n.state ≡ state.now }
-    requires room { length nodes.old ≤ limit }
     requires one { IsCounted (count_of (M.shape machine.now)) one.now.answer }
-    requires nodes { Each (IsGood (M.shape machine.now) (M.right machine.now)) nodes.old }
-    requires near { Each (λ n. n.depth ≤ below) nodes.old }
     requires outcome { IsOutcome (M.shape machine.now) (M.specification machine.now) (M.turns machine.now) nodes.old from below one.now }
     requires apart { HaveOwnPaths one.now.choices.items }
-    ensures extends { Extends (M.shape machine.now) (M.specification machine.now) (M.turns machine.now) (M.right machine.now) below nodes.old nodes.new }
-    ensures begun { AreBegun from nodes.old nodes.new }
-    ensures room { length nodes.new ≤ limit }
+    ensures adds { AddsNodes (M.shape machine.now) (M.specification machine.now) (M.turns machine.now) (M.right machine.now) from below limit nodes.old nodes.new result }
     ensures leads { IfOk result (λ fault. IfNone fault ((n : Node) (r : Yielded) → slice_get nodes.old from ≡ Some n → Shows (M.shape machine.now) one.now.answer r →
         LeadsOn r (state_at (M.shape machine.now) n) (Known (M.shape machine.now) nodes.new below))) }
     ensures wrong { IfOk result (λ fault. IfSome fault (IsBadStep (M.shape machine.now) (M.specification machine.now) (M.turns machine.now) (M.right machine.now) (M.rests machine.now) nodes.old from one.now.choices.items)) }
-    ensures full { IfErr result (HaltsSo (limit ≤ length nodes.new) (λ _. ⊥)) }
 {
     let updates = match &one.answer {
         RuleResult::Set(updates) => updates,
@@ -166,22 +155,16 @@ fn follow_all<M: Machine>(
     nodes: &mut Nodes,
 ) -> Result<Option<BadOutcome>, SearchError>
     requires machine { M.is_sound machine.now }
-    requires from { from < length nodes.old }
+    requires ready { CanAdd (M.shape machine.now) (M.right machine.now) from below limit nodes.old }
     requires state { IsStateOf (M.shape machine.now) state.now }
     requires here { (n : Node) → slice_get nodes.old from ≡ Some n → n.state ≡ state.now }
-    requires room { length nodes.old ≤ limit }
     requires outcomes { AreCounted (count_of (M.shape machine.now)) outcomes.now }
-    requires nodes { Each (IsGood (M.shape machine.now) (M.right machine.now)) nodes.old }
-    requires near { Each (λ n. n.depth ≤ below) nodes.old }
     requires sound { Each (IsOutcome (M.shape machine.now) (M.specification machine.now) (M.turns machine.now) nodes.old from below) outcomes.now }
     requires apart { HaveChoices HaveOwnPaths outcomes.now }
-    ensures extends { Extends (M.shape machine.now) (M.specification machine.now) (M.turns machine.now) (M.right machine.now) below nodes.old nodes.new }
-    ensures begun { AreBegun from nodes.old nodes.new }
-    ensures room { length nodes.new ≤ limit }
+    ensures adds { AddsNodes (M.shape machine.now) (M.specification machine.now) (M.turns machine.now) (M.right machine.now) from below limit nodes.old nodes.new result }
     ensures leads { IfOk result (λ bad. IfNone bad (FollowsStep (M.shape machine.now) nodes.old nodes.new from below outcomes.now)) }
     ensures wrong { IfOk result (λ bad. IfSome bad (λ b. (f : ListedOutcome) × (slice_get outcomes.now b.number ≡ Some f) ×
         IsBadStep (M.shape machine.now) (M.specification machine.now) (M.turns machine.now) (M.right machine.now) (M.rests machine.now) nodes.old from f.choices.items b.fault)) }
-    ensures full { IfErr result (HaltsSo (limit ≤ length nodes.new) (λ _. ⊥)) }
 {
     for k in 0..outcomes.len() {
         let one = &outcomes[k];
@@ -221,21 +204,9 @@ fn expand<M: Machine>(
     nodes: &mut Nodes,
 ) -> Result<Option<BadStep>, SearchError>
     requires machine { M.is_sound machine.now }
-    requires from { from < length nodes.old }
-    requires shallow { (n : Node) → slice_get nodes.old from ≡ Some n → n.depth < 4_294_967_295 }
-    requires here { (n : Node) → slice_get nodes.old from ≡ Some n → n.state ≡ state.now }
-    requires room { length nodes.old ≤ limit }
-    requires nodes { Each (IsGood (M.shape machine.now) (M.right machine.now)) nodes.old }
-    requires near { IsNear nodes.old from }
+    requires ready { CanExpand (M.shape machine.now) (M.right machine.now) from limit state.now nodes.old }
     requires step { IsStep (M.shape machine.now) (M.specification machine.now) (M.turns machine.now) (state_of (M.shape machine.now) state.now) outcomes.now }
-    ensures extends { (n : Node) → slice_get nodes.old from ≡ Some n → Extends (M.shape machine.now) (M.specification machine.now) (M.turns machine.now) (M.right machine.now) (n.depth + 1) nodes.old nodes.new }
-    ensures begun { AreBegun from nodes.old nodes.new }
-    ensures room { length nodes.new ≤ limit }
-    ensures expanded { IfOk result (λ bad. IfNone bad ((n : Node) → slice_get nodes.old from ≡ Some n → Expanded (M.shape machine.now) (M.specification machine.now) (M.turns machine.now) nodes.new n)) }
-    ensures wrong { IfOk result (λ bad. IfSome bad (λ b. (b.from ≡ from) ×
-        IsBadStep (M.shape machine.now) (M.specification machine.now) (M.turns machine.now) (M.right machine.now) (M.rests machine.now) nodes.old from b.choices.items b.fault)) }
-    ensures apart { IfOk result (λ bad. IfSome bad (λ b. HaveOwnPaths b.choices.items)) }
-    ensures full { IfErr result (HaltsSo (limit ≤ length nodes.new) (λ _. ⊥)) }
+    ensures { ExpandsNode (M.shape machine.now) (M.specification machine.now) (M.turns machine.now) (M.right machine.now) (M.rests machine.now) (λ _. ⊥) from limit nodes.old nodes.new result }
 {
     let below = nodes.depth(from) + 1;
     index.count(outcomes.len());
@@ -267,23 +238,10 @@ fn expand_listed<M: Machine>(
     quiet: &mut Vec<u32>,
 ) -> Result<Option<BadStep>, SearchError>
     requires machine { M.is_sound machine.now }
-    requires from { from < length nodes.old }
-    requires shallow { (n : Node) → slice_get nodes.old from ≡ Some n → n.depth < 4_294_967_295 }
-    requires here { (n : Node) → slice_get nodes.old from ≡ Some n → n.state ≡ state.now }
-    requires room { length nodes.old ≤ limit }
-    requires nodes { Each (IsGood (M.shape machine.now) (M.right machine.now)) nodes.old }
-    requires near { IsNear nodes.old from }
-    ensures extends { (n : Node) → slice_get nodes.old from ≡ Some n → Extends (M.shape machine.now) (M.specification machine.now) (M.turns machine.now) (M.right machine.now) (n.depth + 1) nodes.old nodes.new }
-    ensures begun { AreBegun from nodes.old nodes.new }
-    ensures room { length nodes.new ≤ limit }
-    ensures expanded { IfOk result (λ bad. IfNone bad ((n : Node) → slice_get nodes.old from ≡ Some n → Expanded (M.shape machine.now) (M.specification machine.now) (M.turns machine.now) nodes.new n)) }
-    ensures wrong { IfOk result (λ bad. IfSome bad (λ b. (b.from ≡ from) ×
-        IsBadStep (M.shape machine.now) (M.specification machine.now) (M.turns machine.now) (M.right machine.now) (M.rests machine.now) nodes.old from b.choices.items b.fault)) }
-    ensures apart { IfOk result (λ bad. IfSome bad (λ b. HaveOwnPaths b.choices.items)) }
-    ensures rests { IfOk result (λ bad. IfNone bad (RestsSo (M.specification machine.now) (M.turns machine.now) (M.rests machine.now) (state_of (M.shape machine.now) state.now) from quiet.old.items quiet.new.items)) }
-    ensures listed { IfOk result (λ bad. IfSome bad (λ _. quiet.new.items ≡ quiet.old.items)) }
-    ensures unlisted { IfErr result (λ _. quiet.new.items ≡ quiet.old.items) }
-    ensures full { IfErr result (HaltsSo (limit ≤ length nodes.new) (IsOverLimitOf (M.made machine.now) (M.limit machine.now) (state_of (M.shape machine.now) state.now))) }
+    requires ready { CanExpand (M.shape machine.now) (M.right machine.now) from limit state.now nodes.old }
+    ensures expands { ExpandsNode (M.shape machine.now) (M.specification machine.now) (M.turns machine.now) (M.right machine.now) (M.rests machine.now)
+        (IsOverLimitOf (M.made machine.now) (M.limit machine.now) (state_of (M.shape machine.now) state.now)) from limit nodes.old nodes.new result }
+    ensures quiet { ListsQuiet (M.specification machine.now) (M.turns machine.now) (M.rests machine.now) (state_of (M.shape machine.now) state.now) from quiet.old.items quiet.new.items result }
 {
     match machine.outcomes(alloc, state) {
         Ok(outcomes) => {
@@ -316,19 +274,13 @@ fn reach_next<M: Machine>(
     nodes: &mut Nodes,
 ) -> Result<bool, SearchError>
     requires machine { M.is_sound machine.now }
+    requires ready { CanAdd (M.shape machine.now) (M.right machine.now) from below limit nodes.old }
     requires like { length like.now ≡ count_of (M.shape machine.now) }
     requires number { number < length states.now }
-    requires from { from < length nodes.old }
-    requires room { length nodes.old ≤ limit }
-    requires nodes { Each (IsGood (M.shape machine.now) (M.right machine.now)) nodes.old }
-    requires near { Each (λ n. n.depth ≤ below) nodes.old }
     requires kept { Each (λ m. IsStateOf (M.shape machine.now) m.state) states.now }
     requires leads { Each (λ m. LeadsTo (M.shape machine.now) (M.specification machine.now) (M.turns machine.now) nodes.old from below (state_at (M.shape machine.now) m)) states.now }
-    ensures extends { Extends (M.shape machine.now) (M.specification machine.now) (M.turns machine.now) (M.right machine.now) below nodes.old nodes.new }
-    ensures begun { AreBegun from nodes.old nodes.new }
-    ensures room { length nodes.new ≤ limit }
+    ensures adds { AddsNodes (M.shape machine.now) (M.specification machine.now) (M.turns machine.now) (M.right machine.now) from below limit nodes.old nodes.new result }
     ensures known { IfOk result (λ fine. IsTrue fine → (m : Node) → slice_get states.now number ≡ Some m → Known (M.shape machine.now) nodes.new below (state_at (M.shape machine.now) m)) }
-    ensures full { IfErr result (HaltsSo (limit ≤ length nodes.new) (λ _. ⊥)) }
 {
     if is_there(nodes, index, hash, states, number) {
         return Ok(true);
@@ -354,18 +306,12 @@ fn reach_all<M: Machine>(
     nodes: &mut Nodes,
 ) -> Result<bool, SearchError>
     requires machine { M.is_sound machine.now }
+    requires ready { CanAdd (M.shape machine.now) (M.right machine.now) from below limit nodes.old }
     requires like { length like.now ≡ count_of (M.shape machine.now) }
-    requires from { from < length nodes.old }
-    requires room { length nodes.old ≤ limit }
-    requires nodes { Each (IsGood (M.shape machine.now) (M.right machine.now)) nodes.old }
-    requires near { Each (λ n. n.depth ≤ below) nodes.old }
     requires kept { Each (λ m. IsStateOf (M.shape machine.now) m.state) states.now }
     requires leads { Each (λ m. LeadsTo (M.shape machine.now) (M.specification machine.now) (M.turns machine.now) nodes.old from below (state_at (M.shape machine.now) m)) states.now }
-    ensures extends { Extends (M.shape machine.now) (M.specification machine.now) (M.turns machine.now) (M.right machine.now) below nodes.old nodes.new }
-    ensures begun { AreBegun from nodes.old nodes.new }
-    ensures room { length nodes.new ≤ limit }
+    ensures adds { AddsNodes (M.shape machine.now) (M.specification machine.now) (M.turns machine.now) (M.right machine.now) from below limit nodes.old nodes.new result }
     ensures known { IfOk result (λ fine. IsTrue fine → Each (λ m. Known (M.shape machine.now) nodes.new below (state_at (M.shape machine.now) m)) states.now) }
-    ensures full { IfErr result (HaltsSo (limit ≤ length nodes.new) (λ _. ⊥)) }
 {
     for k in 0..states.len() {
         let hash = hashes.get(k).copied().unwrap_or(0);
@@ -392,24 +338,11 @@ fn expand_ahead<M: Machine>(
     quiet: &mut Vec<u32>,
 ) -> Result<Option<BadStep>, SearchError>
     requires machine { M.is_sound machine.now }
-    requires from { from < length nodes.old }
-    requires shallow { (n : Node) → slice_get nodes.old from ≡ Some n → n.depth < 4_294_967_295 }
-    requires here { (n : Node) → slice_get nodes.old from ≡ Some n → n.state ≡ state.now }
-    requires room { length nodes.old ≤ limit }
-    requires nodes { Each (IsGood (M.shape machine.now) (M.right machine.now)) nodes.old }
-    requires near { IsNear nodes.old from }
+    requires ready { CanExpand (M.shape machine.now) (M.right machine.now) from limit state.now nodes.old }
     requires ahead { IsAhead (M.shape machine.now) (M.specification machine.now) (M.turns machine.now) nodes.old (state_of (M.shape machine.now) state.now) ahead.now }
-    ensures extends { (n : Node) → slice_get nodes.old from ≡ Some n → Extends (M.shape machine.now) (M.specification machine.now) (M.turns machine.now) (M.right machine.now) (n.depth + 1) nodes.old nodes.new }
-    ensures begun { AreBegun from nodes.old nodes.new }
-    ensures room { length nodes.new ≤ limit }
-    ensures expanded { IfOk result (λ bad. IfNone bad ((n : Node) → slice_get nodes.old from ≡ Some n → Expanded (M.shape machine.now) (M.specification machine.now) (M.turns machine.now) nodes.new n)) }
-    ensures wrong { IfOk result (λ bad. IfSome bad (λ b. (b.from ≡ from) ×
-        IsBadStep (M.shape machine.now) (M.specification machine.now) (M.turns machine.now) (M.right machine.now) (M.rests machine.now) nodes.old from b.choices.items b.fault)) }
-    ensures apart { IfOk result (λ bad. IfSome bad (λ b. HaveOwnPaths b.choices.items)) }
-    ensures rests { IfOk result (λ bad. IfNone bad (RestsSo (M.specification machine.now) (M.turns machine.now) (M.rests machine.now) (state_of (M.shape machine.now) state.now) from quiet.old.items quiet.new.items)) }
-    ensures listed { IfOk result (λ bad. IfSome bad (λ _. quiet.new.items ≡ quiet.old.items)) }
-    ensures unlisted { IfErr result (λ _. quiet.new.items ≡ quiet.old.items) }
-    ensures full { IfErr result (HaltsSo (limit ≤ length nodes.new) (IsOverLimitOf (M.made machine.now) (M.limit machine.now) (state_of (M.shape machine.now) state.now))) }
+    ensures expands { ExpandsNode (M.shape machine.now) (M.specification machine.now) (M.turns machine.now) (M.right machine.now) (M.rests machine.now)
+        (IsOverLimitOf (M.made machine.now) (M.limit machine.now) (state_of (M.shape machine.now) state.now)) from limit nodes.old nodes.new result }
+    ensures quiet { ListsQuiet (M.specification machine.now) (M.turns machine.now) (M.rests machine.now) (state_of (M.shape machine.now) state.now) from quiet.old.items quiet.new.items result }
 {
     let below = nodes.depth(from) + 1;
     let (states, hashes) = (&ahead.states, ahead.hashes.as_slice());
@@ -438,24 +371,11 @@ fn expand_step<M: Machine>(
     quiet: &mut Vec<u32>,
 ) -> Result<Option<BadStep>, SearchError>
     requires machine { M.is_sound machine.now }
-    requires from { from < length nodes.old }
-    requires shallow { (n : Node) → slice_get nodes.old from ≡ Some n → n.depth < 4_294_967_295 }
-    requires here { (n : Node) → slice_get nodes.old from ≡ Some n → n.state ≡ state.now }
-    requires room { length nodes.old ≤ limit }
-    requires nodes { Each (IsGood (M.shape machine.now) (M.right machine.now)) nodes.old }
-    requires near { IsNear nodes.old from }
+    requires ready { CanExpand (M.shape machine.now) (M.right machine.now) from limit state.now nodes.old }
     requires ahead { IfSome ahead.now (IsAhead (M.shape machine.now) (M.specification machine.now) (M.turns machine.now) nodes.old (state_of (M.shape machine.now) state.now)) }
-    ensures extends { (n : Node) → slice_get nodes.old from ≡ Some n → Extends (M.shape machine.now) (M.specification machine.now) (M.turns machine.now) (M.right machine.now) (n.depth + 1) nodes.old nodes.new }
-    ensures begun { AreBegun from nodes.old nodes.new }
-    ensures room { length nodes.new ≤ limit }
-    ensures expanded { IfOk result (λ bad. IfNone bad ((n : Node) → slice_get nodes.old from ≡ Some n → Expanded (M.shape machine.now) (M.specification machine.now) (M.turns machine.now) nodes.new n)) }
-    ensures wrong { IfOk result (λ bad. IfSome bad (λ b. (b.from ≡ from) ×
-        IsBadStep (M.shape machine.now) (M.specification machine.now) (M.turns machine.now) (M.right machine.now) (M.rests machine.now) nodes.old from b.choices.items b.fault)) }
-    ensures apart { IfOk result (λ bad. IfSome bad (λ b. HaveOwnPaths b.choices.items)) }
-    ensures rests { IfOk result (λ bad. IfNone bad (RestsSo (M.specification machine.now) (M.turns machine.now) (M.rests machine.now) (state_of (M.shape machine.now) state.now) from quiet.old.items quiet.new.items)) }
-    ensures listed { IfOk result (λ bad. IfSome bad (λ _. quiet.new.items ≡ quiet.old.items)) }
-    ensures unlisted { IfErr result (λ _. quiet.new.items ≡ quiet.old.items) }
-    ensures full { IfErr result (HaltsSo (limit ≤ length nodes.new) (IsOverLimitOf (M.made machine.now) (M.limit machine.now) (state_of (M.shape machine.now) state.now))) }
+    ensures expands { ExpandsNode (M.shape machine.now) (M.specification machine.now) (M.turns machine.now) (M.right machine.now) (M.rests machine.now)
+        (IsOverLimitOf (M.made machine.now) (M.limit machine.now) (state_of (M.shape machine.now) state.now)) from limit nodes.old nodes.new result }
+    ensures quiet { ListsQuiet (M.specification machine.now) (M.turns machine.now) (M.rests machine.now) (state_of (M.shape machine.now) state.now) from quiet.old.items quiet.new.items result }
 {
     match ahead {
         Some(ahead) => expand_ahead(

@@ -5,7 +5,7 @@ use crate::texts::exclusion::MUTEX_WRONG;
 use crate::texts::stack::STACK_WRONG;
 use crate::texts::termination::TERMINATION_WRONG;
 use asm_explore::{BadRun, Finding};
-use asm_limits::run_limits::Limits;
+use asm_limits::run_limits::{DEFAULTS, Limits};
 use asm_run::end::End;
 use asm_run::error::RunError;
 use asm_run::run::run;
@@ -79,9 +79,7 @@ fn run_under<R: Threads + Sync + AllocGlobal>(
     let limits = Limits {
         steps,
         turns: ANY.turns,
-        workers: 1,
-        cut: 64,
-        rounds: 4,
+        ..DEFAULTS
     };
     let mut out = Through::new(Vec::new(rt.alloc()));
     let (text, script) = (text.as_bytes(), script.as_bytes());

@@ -11,11 +11,9 @@ ghost use Rattle.asm_explore_tool.specs.Commented.{IsCommented, commented, entry
 
 use crate::comment::add_comments;
 use asm_explore::{ScriptLine, WritingError, Zeros, script_text};
+use asm_reader::MAX_SCRIPT;
 use asm_syntax::InputError;
 use std::alloc::Global;
-
-/// How many bytes a script may have.
-const MAX_SCRIPT: usize = 1_048_576;
 
 /// A line of a script, and the comments before it.
 #[derive(Drop)]

@@ -2,7 +2,7 @@
 ghost use Rattle.std.specs.Prelude.{IfOk};
 ghost use Rattle.asm_explore_tool.specs.RunEnds.{IsEndOf, IsTraceOf};
 
-use asm_limits::run_limits::Limits;
+use asm_limits::run_limits::{DEFAULTS, Limits};
 use asm_run::end::End;
 use asm_run::error::RunError;
 use asm_run::run::run;
@@ -33,9 +33,7 @@ pub(crate) fn ended_run<R: Threads + Sync>(
     let limits = Limits {
         steps,
         turns,
-        workers: 1,
-        cut: 64,
-        rounds: 0,
+        ..DEFAULTS
     };
     let mut sink = Through::new(Vec::new(alloc));
     let end = run(rt, alloc, text, script, &limits, &mut sink)?;

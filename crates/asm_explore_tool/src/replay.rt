@@ -15,8 +15,7 @@ use asm_by_code::by_code::outcome_by_code;
 use asm_check::Checked;
 use asm_eval::evaluation::Evaluation;
 use asm_meaning::laws::from_nothing_laws;
-use asm_meaning::new_forming::{new_forming, outcome_of};
-use asm_meaning::{Choices, Outcome, View};
+use asm_meaning::{Choices, Forming, Outcome, View};
 use asm_reader::Script;
 use asm_state::laws::test_laws;
 use asm_state::state::State;
@@ -36,14 +35,14 @@ fn step_outcome(
         IfOk result (IsFormed (shape_of s) (does (program checked.now) turns choices.now.script.now choices.now.step (shown view.now) nothing_bound [] (main_rule s (inits s)))) }
 {
     from_nothing_laws::<()>();
-    let mut made = new_forming(alloc, view.signature, &[])?;
+    let mut forming = Forming::at(alloc, view.signature, &[])?;
     let evaluation = Evaluation {
         view,
         choices,
         turns,
     };
-    let formed = outcome_by_code(alloc, checked, &evaluation, &mut made)?;
-    outcome_of(made, formed)
+    let formed = outcome_by_code(alloc, checked, &evaluation, &mut forming)?;
+    forming.into_outcome(formed)
 }
 
 /// The state that a step leads to, unless the run ends in it.

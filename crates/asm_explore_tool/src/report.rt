@@ -17,11 +17,9 @@ use asm_explore::{BadRun, ExplorationResult, Finding};
 use asm_explore_texts::conditions::Conditions;
 use asm_explore_words::fault::Fault;
 use asm_explore_words::settings::Settings;
+use asm_reader::MAX_SCRIPT;
 use std::alloc::{AllocError, Global};
 use std::thread::Threads;
-
-/// How many bytes a script may have.
-const MAX_SCRIPT: usize = 1_048_576;
 
 /// What the program prints, and its status.
 #[derive(Drop)]

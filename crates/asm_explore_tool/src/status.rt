@@ -278,7 +278,7 @@ fn workers_of(settings: &Settings<'_>) -> usize
 {
     match settings.workers {
         0 => 1,
-        workers if workers > WORKERS.most => WORKERS.most as usize,
+        workers if workers > WORKERS.bounds.most => WORKERS.bounds.most as usize,
         workers => workers as usize,
     }
 }

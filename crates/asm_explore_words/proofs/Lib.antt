@@ -1,6 +1,5 @@
-mod GivenNumbers
 mod Options
 mod RandomOptions
-mod ReadNumbers
 mod ReadTexts
 mod RunOptions
+mod UnsignedNumbers

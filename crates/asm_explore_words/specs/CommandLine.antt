@@ -15,9 +15,8 @@ use Rattle.clap.specs.Simple.{App, new_rule, new_shape}
 use Rattle.clap.specs.Walk.{Rule, Text}
 use Rattle.clap.specs.declared.builder.action.ArgAction.TheVariants.{Append, SetTrue}
 use Rattle.clap.specs.declared.builder.value_parser.ValueParser.TheVariants.{Unsigned}
-use Rattle.asm_limits.specs.declared.run_limits.TheConstants.{STEPS, TURNS, WORKERS}
+use Rattle.asm_limits.specs.Limits.{NumberOption, from_to, steps_option, turns_option, workers_option}
 use Rattle.asm_arguments.specs.Arguments.{positional, option, number, required, or_else}
-use Rattle.asm_explore_words.specs.declared.command_line.TheConstants.{STATES, OUTCOMES, RUNS}
 
 -- it may be repeated
 abbrev pub repeated : Rule → Rule
@@ -34,21 +33,37 @@ unsigned name = record (option name) { parser = Some (Unsigned 0 most_unsigned) 
 abbrev pub flag : Text → Rule
 flag name = record (new_rule name) { long = Some name; action = Some SetTrue }
 
+-- ---- options with numbers
+
+abbrev pub steps_or_else : Text → NumberOption
+steps_or_else other = record steps_option { default = Some other }
+
+abbrev pub states_option : NumberOption
+states_option = record { name = codes "states"; bounds = from_to 1 100_000_000; default = Some (codes "1000000") }
+
+abbrev pub outcomes_option : NumberOption
+outcomes_option = record { name = codes "outcomes"; bounds = from_to 1 1_000_000; default = Some (codes "10000") }
+
+abbrev pub runs_option : NumberOption
+runs_option = record { name = codes "runs"; bounds = from_to 1 1_000_000; default = Some (codes "1000") }
+
+-- ---- the commands
+
 unfoldable pub command : App
 command = record {
   top = record (new_shape (codes "asm-explore all")) {
     no_binary_name = true;
     has_version = true;
     rules = required (positional (codes "spec"))
-        ∷ or_else (codes "1000000") (number STEPS (codes "steps"))
-        ∷ or_else (codes "1000") (number TURNS (codes "turns"))
+        ∷ number (steps_or_else (codes "1000000"))
+        ∷ number turns_option
         ∷ repeated (option (codes "always"))
         ∷ repeated (option (codes "always-file"))
         ∷ option (codes "deadlock-unless")
         ∷ option (codes "within")
-        ∷ or_else (codes "1000000") (number STATES (codes "states"))
-        ∷ or_else (codes "10000") (number OUTCOMES (codes "outcomes"))
-        ∷ or_else (codes "1") (number WORKERS (codes "workers"))
+        ∷ number states_option
+        ∷ number outcomes_option
+        ∷ number workers_option
         ∷ option (codes "dot")
         ∷ flag (codes "trace")
         ∷ flag (codes "progress")
@@ -66,11 +81,11 @@ random_command = record {
     no_binary_name = true;
     has_version = true;
     rules = required (positional (codes "spec"))
-        ∷ or_else (codes "1000") (number STEPS (codes "steps"))
-        ∷ or_else (codes "1000") (number TURNS (codes "turns"))
+        ∷ number (steps_or_else (codes "1000"))
+        ∷ number turns_option
         ∷ repeated (option (codes "always"))
         ∷ repeated (option (codes "always-file"))
-        ∷ or_else (codes "1000") (number RUNS (codes "runs"))
+        ∷ number runs_option
         ∷ or_else (codes "0") (unsigned (codes "seed"))
         ∷ flag (codes "trace")
         ∷ flag (codes "progress")
@@ -88,8 +103,8 @@ run_command = record {
     no_binary_name = true;
     has_version = true;
     rules = required (positional (codes "spec"))
-        ∷ or_else (codes "1000") (number STEPS (codes "steps"))
-        ∷ or_else (codes "1000") (number TURNS (codes "turns"))
+        ∷ number (steps_or_else (codes "1000"))
+        ∷ number turns_option
         ∷ option (codes "script")
         ∷ [];
   };

@@ -23,10 +23,9 @@ use Rattle.clap.specs.declared.error.Error.{Error}
 use Rattle.clap.specs.declared.error.kind.ErrorKind.TheVariants.{ArgumentConflict, OutOfMemory}
 use Rattle.clap.specs.declared.parser.matches.ArgMatches.{ArgMatches}
 use Rattle.clap.specs.declared.parser.matches.Found.{Found}
-use Rattle.asm_limits.specs.declared.run_limits.TheConstants.{STEPS, TURNS, WORKERS}
-use Rattle.asm_limits.specs.Limits.{is_within}
-use Rattle.asm_arguments.specs.Numbers.{HasNumber, IsNumber}
-use Rattle.asm_explore_words.specs.CommandLine.{command, most_unsigned, refusals, random_command, random_refusals, run_command, run_refusals}
+use Rattle.asm_limits.specs.Limits.{NumberOption, are_within, turns_option, workers_option}
+use Rattle.asm_arguments.specs.Numbers.{AreNumbers, HaveNumbers}
+use Rattle.asm_explore_words.specs.CommandLine.{command, most_unsigned, outcomes_option, refusals, random_command, random_refusals, run_command, run_refusals, runs_option, states_option, steps_or_else}
 use Rattle.asm_explore_words.specs.declared.fault.Fault.{Fault}
 use Rattle.asm_explore_words.specs.declared.fault.Fault.TheVariants.{Memory, Words}
 use Rattle.asm_explore_words.specs.declared.settings.RandomSettings.{RandomSettings}
@@ -34,18 +33,40 @@ use Rattle.asm_explore_words.specs.declared.settings.RunSettings.{RunSettings}
 use Rattle.asm_explore_words.specs.declared.settings.Settings.{Settings}
 use Rattle.asm_explore_words.specs.declared.settings.Task.{Task}
 use Rattle.asm_explore_words.specs.declared.settings.Task.TheVariants.{All, Random, Choices, Clash}
-use Rattle.asm_explore_words.specs.declared.command_line.TheConstants.{STATES, OUTCOMES, RUNS}
 
--- each number is within its bounds
+-- ---- the options with numbers, with what the settings have of each
+
+abbrev pub numbers_of : Settings → List (NumberOption × ℕ)
+numbers_of s =
+    (steps_or_else (codes "1000000"), s.steps) ∷ (turns_option, s.turns) ∷ (states_option, s.states) ∷ (outcomes_option, s.outcomes)
+    ∷ (workers_option, s.workers) ∷ []
+
+-- and a seed, which is any number of 64 bits
+abbrev pub random_numbers_of : RandomSettings → List (NumberOption × ℕ)
+random_numbers_of s = (steps_or_else (codes "1000"), s.steps) ∷ (turns_option, s.turns) ∷ (runs_option, s.runs) ∷ []
+
+abbrev pub run_numbers_of : RunSettings → List (NumberOption × ℕ)
+run_numbers_of s = (steps_or_else (codes "1000"), s.steps) ∷ (turns_option, s.turns) ∷ []
+
+abbrev pub number_options : List NumberOption
+number_options = steps_or_else (codes "1000000") ∷ turns_option ∷ states_option ∷ outcomes_option ∷ workers_option ∷ []
+
+abbrev pub random_number_options : List NumberOption
+random_number_options = steps_or_else (codes "1000") ∷ turns_option ∷ runs_option ∷ []
+
+abbrev pub run_number_options : List NumberOption
+run_number_options = steps_or_else (codes "1000") ∷ turns_option ∷ []
+
+-- ---- each number is within its bounds
+
 abbrev pub are_in_range : Settings → Bool
-are_in_range s = is_within STEPS s.steps && is_within TURNS s.turns && is_within STATES s.states && is_within OUTCOMES s.outcomes && is_within WORKERS s.workers
+are_in_range s = are_within (numbers_of s)
 
--- each seed of 64 bits is one
 abbrev pub are_random_in_range : RandomSettings → Bool
-are_random_in_range s = is_within STEPS s.steps && is_within TURNS s.turns && is_within RUNS s.runs
+are_random_in_range s = are_within (random_numbers_of s)
 
 abbrev pub are_run_in_range : RunSettings → Bool
-are_run_in_range s = is_within STEPS s.steps && is_within TURNS s.turns
+are_run_in_range s = are_within (run_numbers_of s)
 
 abbrev pub is_task_in_range : Task → Bool
 is_task_in_range (All settings) = are_in_range settings
@@ -64,18 +85,12 @@ pub record HasUnsigned (found : Found) (name : Text) : Type 0 where
 pub record AreParsed (words : List Text) (matches : ArgMatches) : Type 0 where
   pub rows : rows_of (found_of matches) ≡ matches_of command words
   pub spec : is_some (first_value (found_of matches) (codes "spec")) ≡ true
-  pub steps : HasNumber (found_of matches) (codes "steps") STEPS
-  pub turns : HasNumber (found_of matches) (codes "turns") TURNS
-  pub states : HasNumber (found_of matches) (codes "states") STATES
-  pub outcomes : HasNumber (found_of matches) (codes "outcomes") OUTCOMES
-  pub workers : HasNumber (found_of matches) (codes "workers") WORKERS
+  pub numbers : HaveNumbers (found_of matches) number_options
 
 pub record AreRandomParsed (words : List Text) (matches : ArgMatches) : Type 0 where
   pub rows : rows_of (found_of matches) ≡ matches_of random_command words
   pub spec : is_some (first_value (found_of matches) (codes "spec")) ≡ true
-  pub steps : HasNumber (found_of matches) (codes "steps") STEPS
-  pub turns : HasNumber (found_of matches) (codes "turns") TURNS
-  pub runs : HasNumber (found_of matches) (codes "runs") RUNS
+  pub numbers : HaveNumbers (found_of matches) random_number_options
   pub seed : HasUnsigned (found_of matches) (codes "seed")
 
 -- the rows of the words after `choices` and `clash`
@@ -85,8 +100,7 @@ run_rows words = matches_of run_command words
 pub record AreRunParsed (words : List Text) (matches : ArgMatches) : Type 0 where
   pub rows : rows_of (found_of matches) ≡ run_rows words
   pub spec : is_some (first_value (found_of matches) (codes "spec")) ≡ true
-  pub steps : HasNumber (found_of matches) (codes "steps") STEPS
-  pub turns : HasNumber (found_of matches) (codes "turns") TURNS
+  pub numbers : HaveNumbers (found_of matches) run_number_options
 
 -- the texts of an argument
 abbrev pub all_of : Text → List Row → List Text
@@ -107,15 +121,11 @@ is_yes (Some text) = bytes_eq text (codes "true")
 
 pub record AreRead (rows : List Row) (settings : Settings) : Type 0 where
   pub spec : first_of (codes "spec") rows ≡ Some settings.spec.now
-  pub steps : IsNumber rows (codes "steps") settings.steps
-  pub turns : IsNumber rows (codes "turns") settings.turns
-  pub states : IsNumber rows (codes "states") settings.states
-  pub outcomes : IsNumber rows (codes "outcomes") settings.outcomes
+  pub numbers : AreNumbers rows (numbers_of settings)
   pub always : texts settings.always.items ≡ all_of (codes "always") rows
   pub always_files : texts settings.always_files.items ≡ all_of (codes "always-file") rows
   pub when_quiet : option_map (λ text. text.now) settings.when_quiet ≡ first_of (codes "deadlock-unless") rows
   pub within : option_map (λ text. text.now) settings.within ≡ first_of (codes "within") rows
-  pub workers : IsNumber rows (codes "workers") settings.workers
   pub dot : option_map (λ text. text.now) settings.dot ≡ first_of (codes "dot") rows
   pub trace : settings.trace ≡ is_yes (first_of (codes "trace") rows)
   pub progress : settings.progress ≡ is_yes (first_of (codes "progress") rows)
@@ -125,11 +135,9 @@ AreSaid words settings = AreRead (matches_of command words) settings
 
 pub record AreRandomRead (rows : List Row) (settings : RandomSettings) : Type 0 where
   pub spec : first_of (codes "spec") rows ≡ Some settings.spec.now
-  pub steps : IsNumber rows (codes "steps") settings.steps
-  pub turns : IsNumber rows (codes "turns") settings.turns
+  pub numbers : AreNumbers rows (random_numbers_of settings)
   pub always : texts settings.always.items ≡ all_of (codes "always") rows
   pub always_files : texts settings.always_files.items ≡ all_of (codes "always-file") rows
-  pub runs : IsNumber rows (codes "runs") settings.runs
   pub seed : IsUnsigned rows (codes "seed") settings.seed
   pub trace : settings.trace ≡ is_yes (first_of (codes "trace") rows)
   pub progress : settings.progress ≡ is_yes (first_of (codes "progress") rows)
@@ -139,8 +147,7 @@ AreRandomSaid words settings = AreRandomRead (matches_of random_command words) s
 
 pub record AreRunRead (rows : List Row) (settings : RunSettings) : Type 0 where
   pub spec : first_of (codes "spec") rows ≡ Some settings.spec.now
-  pub steps : IsNumber rows (codes "steps") settings.steps
-  pub turns : IsNumber rows (codes "turns") settings.turns
+  pub numbers : AreNumbers rows (run_numbers_of settings)
   pub script : option_map (λ text. text.now) settings.script ≡ first_of (codes "script") rows
 
 -- the file with this name is standard input

@@ -1,14 +1,12 @@
 //! The words after a command, as arguments, and what they give.
-ghost use Rattle.std.specs.Prelude.{◌≡◌, Some, pos, IfOk};
-ghost use Rattle.std.specs.Str.Parse.{digits_value, signed_digits_value, without_leading_plus};
+ghost use Rattle.std.specs.Prelude.{◌≡◌, Some, IfOk};
+ghost use Rattle.std.specs.Str.Parse.{digits_value, without_leading_plus};
 ghost use Rattle.clap.specs.Walk.{texts};
 ghost use Rattle.clap.specs.Words.{first_value, found_of, rule_of, rows_of};
 ghost use Rattle.asm_arguments.specs.Arguments as arguments;
-ghost use Rattle.asm_arguments.specs.Numbers.{HasNumber};
 ghost use Rattle.asm_explore_words.specs.CommandLine as line;
 ghost use Rattle.asm_explore_words.specs.WordsSaid.{HasUnsigned, all_of, is_yes};
 
-use asm_limits::run_limits::Bounds;
 use clap::{Arg, ArgAction, ArgMatches};
 use std::alloc::{AllocError, Global};
 
@@ -36,20 +34,6 @@ pub(crate) fn texts<'w>(alloc: Global, name: &'w str, shown: &'w str, help: &'w 
     text(alloc, name, shown, help).action(ArgAction::Append)
 }
 
-/// The word `--name`, with a number within these bounds.
-pub(crate) fn number<'w>(alloc: Global, name: &'w str, bounds: Bounds, help: &'w str) -> Arg<'w>
-    ensures { rule_of result ≡ arguments.number bounds name.entry.now }
-{
-    Arg::new(alloc, name)
-        .long(name)
-        .value_name("N")
-        .help(help)
-        .action(ArgAction::Set)
-        .value_parser(clap::value_parser!(u32).range(
-            i64::from(bounds.least)..=i64::from(bounds.most),
-        ))
-}
-
 /// The word `--name`, with a number of 64 bits.
 pub(crate) fn unsigned<'w>(alloc: Global, name: &'w str, help: &'w str) -> Arg<'w>
     ensures { rule_of result ≡ line.unsigned name.entry.now }
@@ -65,14 +49,6 @@ pub(crate) fn flag<'w>(alloc: Global, name: &'w str, help: &'w str) -> Arg<'w>
         .long(name)
         .help(help)
         .action(ArgAction::SetTrue)
-}
-
-/// The number of an option that has one.
-pub(crate) fn number_of(given: &ArgMatches<'_>, name: &str) -> u32
-    requires { HasNumber (found_of given.now) name.now (record { least = 0; most = 4_294_967_295 }) }
-    ensures { (text : _) → first_value (found_of given.now) name.now ≡ Some text → signed_digits_value 10 text ≡ pos result }
-{
-    given.get_one::<u32>(name).unwrap()
 }
 
 /// The number of 64 bits of an option that has one.

@@ -9,34 +9,17 @@ ghost use Rattle.asm_explore_words.specs.CommandLine as line;
 ghost use Rattle.asm_explore_words.specs.CommandLine.{refusals, run_refusals};
 ghost use Rattle.asm_explore_words.specs.WordsSaid.{AreParsed, AreRunParsed, AreRunRead, AreRunSaid, AreSaid, AreSaidBehind, ExplainsBehind, ExplainsRun, IsFaultOf, are_in_range, are_run_in_range, is_task_in_range, run_rows};
 
-use crate::arguments::{flag, is_set, number, number_of, text, texts, texts_of, word};
+use crate::arguments::{flag, is_set, text, texts, texts_of, word};
 use crate::fault::Fault;
 use crate::help;
+use crate::number_options::{OUTCOMES, RUN_STEPS, STATES, STEPS, TURNS, WORKERS};
 use crate::random_words::{random, random_settings};
 use crate::settings::{RunSettings, Settings, Task, is_standard_input};
-use asm_limits::run_limits::{Bounds, STEPS, TURNS, WORKERS};
+use asm_arguments::numbers::{number, number_of};
 use clap::error::ErrorKind;
 use clap::{ArgMatches, Command, Error};
 use std::alloc::{AllocError, Global};
 use std::convert::AsStr;
-
-/// Of `Settings::states`.
-pub const STATES: Bounds = Bounds {
-    least: 1,
-    most: 100_000_000,
-};
-
-/// Of `Settings::outcomes`.
-pub const OUTCOMES: Bounds = Bounds {
-    least: 1,
-    most: 1_000_000,
-};
-
-/// Of `RandomSettings::runs`.
-pub const RUNS: Bounds = Bounds {
-    least: 1,
-    most: 1_000_000,
-};
 
 /// The command that looks at every run.
 const ALL: &str = "all";
@@ -104,15 +87,15 @@ fn all_settings<'w, S: AsStr>(alloc: Global, words: &'w [S]) -> Result<Settings<
     let given = given(alloc, words)?;
     Ok(Settings {
         spec: given.get_str("spec").unwrap(),
-        steps: number_of(&given, "steps"),
-        turns: number_of(&given, "turns"),
-        states: number_of(&given, "states"),
-        outcomes: number_of(&given, "outcomes"),
+        steps: number_of(&given, STEPS),
+        turns: number_of(&given, TURNS),
+        states: number_of(&given, STATES),
+        outcomes: number_of(&given, OUTCOMES),
         always: texts_of(alloc, &given, "always")?,
         always_files: texts_of(alloc, &given, "always-file")?,
         when_quiet: given.get_str("deadlock-unless"),
         within: given.get_str("within"),
-        workers: number_of(&given, "workers"),
+        workers: number_of(&given, WORKERS),
         dot: given.get_str("dot"),
         trace: is_set(&given, "trace"),
         progress: is_set(&given, "progress"),
@@ -141,15 +124,15 @@ fn all<'w>(alloc: Global) -> Result<Command<'w>, AllocError>
         .after_help(help::AFTER_ALL)
         .no_binary_name(true)
         .arg(word(alloc, "spec", "SPEC", help::SPEC).required(true))?
-        .arg(number(alloc, "steps", STEPS, help::STEPS).default_value("1000000"))?
-        .arg(number(alloc, "turns", TURNS, help::TURNS).default_value("1000"))?
+        .arg(number(alloc, STEPS))?
+        .arg(number(alloc, TURNS))?
         .arg(texts(alloc, "always", "COND", help::ALWAYS))?
         .arg(texts(alloc, "always-file", "FILE", help::ALWAYS_FILE))?
         .arg(text(alloc, "deadlock-unless", "COND", help::DEADLOCK_UNLESS))?
         .arg(text(alloc, "within", "COND", help::WITHIN))?
-        .arg(number(alloc, "states", STATES, help::STATES).default_value("1000000"))?
-        .arg(number(alloc, "outcomes", OUTCOMES, help::OUTCOMES).default_value("10000"))?
-        .arg(number(alloc, "workers", WORKERS, help::WORKERS).default_value("1"))?
+        .arg(number(alloc, STATES))?
+        .arg(number(alloc, OUTCOMES))?
+        .arg(number(alloc, WORKERS))?
         .arg(text(alloc, "dot", "FILE", help::DOT))?
         .arg(flag(alloc, "trace", help::TRACE))?
         .arg(flag(alloc, "progress", help::PROGRESS))
@@ -197,8 +180,8 @@ fn run_given<'w, S: AsStr>(
     let given = run_parsed(alloc, called, about, words)?;
     Ok(RunSettings {
         spec: given.get_str("spec").unwrap(),
-        steps: number_of(&given, "steps"),
-        turns: number_of(&given, "turns"),
+        steps: number_of(&given, RUN_STEPS),
+        turns: number_of(&given, TURNS),
         script: given.get_str("script"),
     })
 }
@@ -235,8 +218,8 @@ fn run_command<'w>(
         .after_help(help::AFTER_RUN)
         .no_binary_name(true)
         .arg(word(alloc, "spec", "SPEC", help::SPEC).required(true))?
-        .arg(number(alloc, "steps", STEPS, help::RUN_STEPS).default_value("1000"))?
-        .arg(number(alloc, "turns", TURNS, help::TURNS).default_value("1000"))?
+        .arg(number(alloc, RUN_STEPS))?
+        .arg(number(alloc, TURNS))?
         .arg(text(alloc, "script", "FILE", help::SCRIPT))
 }
 

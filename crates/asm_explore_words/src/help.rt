@@ -19,18 +19,9 @@ pub const COMMAND_FIRST: &str = "the command comes first";
 
 pub const SPEC: &str = "The file that has the specification; - is standard input";
 
-pub const STEPS: &str = "Look at runs of at most N steps: 0 to 1000000";
-
-pub const RANDOM_STEPS: &str = "Make at most N steps in each run: 0 to 1000000";
-
-pub const RUN_STEPS: &str = "Make at most N steps: 0 to 1000000";
-
 pub const SCRIPT: &str = "Read the choices from this file; - is standard input [without it: none]";
 
 pub const ONE_INPUT: &str = "the specification and the script can't both be standard input";
-
-pub const TURNS: &str =
-    "An iterate or while that would go on after N turns is a fault: 1 to 1000000";
 
 pub const ALWAYS: &str =
     "A condition that must be true in the first state and after each step; may be repeated";
@@ -42,15 +33,7 @@ pub const DEADLOCK_UNLESS: &str =
 
 pub const WITHIN: &str = "Continue no run from a state in which this condition isn't true";
 
-pub const STATES: &str = "Reach at most N states: 1 to 100000000";
-
-pub const OUTCOMES: &str = "End the search if a rule has more than N outcomes: 1 to 1000000";
-
-pub const RUNS: &str = "Make at most N runs: 1 to 1000000";
-
 pub const SEED: &str = "Draw by this seed; another one draws other runs: 0 to 18446744073709551615";
-
-pub const WORKERS: &str = "List outcomes on N threads; the output is the same for every N: 1 to 32";
 
 pub const DOT: &str = "Write the graph of at most 2000 states to this file, for Graphviz";
 

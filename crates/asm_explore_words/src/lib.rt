@@ -5,6 +5,7 @@ mod arguments;
 pub mod command_line;
 pub mod fault;
 mod help;
+mod number_options;
 mod random_words;
 pub mod sentences;
 pub mod settings;

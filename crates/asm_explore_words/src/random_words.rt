@@ -6,13 +6,11 @@ ghost use Rattle.asm_explore_words.specs.CommandLine as line;
 ghost use Rattle.asm_explore_words.specs.CommandLine.{random_refusals};
 ghost use Rattle.asm_explore_words.specs.WordsSaid.{AreRandomParsed, AreRandomSaid, are_random_in_range};
 
-use crate::arguments::{
-    flag, is_set, number, number_of, texts, texts_of, unsigned, unsigned_of, word,
-};
-use crate::command_line::RUNS;
+use crate::arguments::{flag, is_set, texts, texts_of, unsigned, unsigned_of, word};
 use crate::help;
+use crate::number_options::{RANDOM_STEPS, RUNS, TURNS};
 use crate::settings::RandomSettings;
-use asm_limits::run_limits::{STEPS, TURNS};
+use asm_arguments::numbers::{number, number_of};
 use clap::{ArgMatches, Command, Error};
 use std::alloc::{AllocError, Global};
 use std::convert::AsStr;
@@ -30,11 +28,11 @@ pub(crate) fn random_settings<'w, S: AsStr>(
     let given = random_given(alloc, words)?;
     Ok(RandomSettings {
         spec: given.get_str("spec").unwrap(),
-        steps: number_of(&given, "steps"),
-        turns: number_of(&given, "turns"),
+        steps: number_of(&given, RANDOM_STEPS),
+        turns: number_of(&given, TURNS),
         always: texts_of(alloc, &given, "always")?,
         always_files: texts_of(alloc, &given, "always-file")?,
-        runs: number_of(&given, "runs"),
+        runs: number_of(&given, RUNS),
         seed: unsigned_of(&given, "seed"),
         trace: is_set(&given, "trace"),
         progress: is_set(&given, "progress"),
@@ -63,11 +61,11 @@ pub(crate) fn random<'w>(alloc: Global) -> Result<Command<'w>, AllocError>
         .after_help(help::AFTER_RANDOM)
         .no_binary_name(true)
         .arg(word(alloc, "spec", "SPEC", help::SPEC).required(true))?
-        .arg(number(alloc, "steps", STEPS, help::RANDOM_STEPS).default_value("1000"))?
-        .arg(number(alloc, "turns", TURNS, help::TURNS).default_value("1000"))?
+        .arg(number(alloc, RANDOM_STEPS))?
+        .arg(number(alloc, TURNS))?
         .arg(texts(alloc, "always", "COND", help::ALWAYS))?
         .arg(texts(alloc, "always-file", "FILE", help::ALWAYS_FILE))?
-        .arg(number(alloc, "runs", RUNS, help::RUNS).default_value("1000"))?
+        .arg(number(alloc, RUNS))?
         .arg(unsigned(alloc, "seed", help::SEED).default_value("0"))?
         .arg(flag(alloc, "trace", help::TRACE))?
         .arg(flag(alloc, "progress", help::PROGRESS))

@@ -7,8 +7,9 @@ use Rattle.asm_meaning.specs.Value.{value, holds, candidates, universe}
 use Rattle.asm_meaning.specs.Yields.{Path, at}
 use Rattle.asm_reader.specs.ScriptLines.{Script, pick}
 use Rattle.asm_meaning.specs.Does.{Meaning, parts, in_order, each, one_of, turns_of, called, meaning, meanings, does_within, does}
-use Rattle.asm_meaning.specs.Ranks.{IsRanked, CallsBelow, EachCallsBelow, lower}
+use Rattle.asm_meaning.specs.Ranks.{IsRanked, CallsBelow, EachCallsBelow}
 use Rattle.asm_meaning.specs.Cases.{all_run, ScriptedByCases}
+use Rattle.asm_meaning.proofs.CallsAndUses.{lower}
 
 module _ (program : Program) (turns : ℕ) (rank : Name → ℕ) (chosen : Path → ℕ) (body₁ body₂ : Rule → Meaning) (n : ℕ)
     (alike : (f : Name) (xs : List Name) (P : Rule) → declared program f ≡ Some (NamedRule xs P) → rank f < n → body₁ P ≡ body₂ P) where

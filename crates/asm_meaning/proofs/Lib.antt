@@ -1,3 +1,4 @@
+pub mod CallsAndUses
 pub mod Cases
 pub mod TermCases
 pub mod Weights

@@ -1,6 +1,6 @@
 -- Free. The ranks of a well-formed specification's derived functions and rules fall in its program
 -- too.
-use Rattle.std.proofs.Common.{◌≡◌, ℕ, ◌<◌, Bool, true, false, List, ◌∷◌, map, Option, Some, None, refl, sym, ap, subst, ◌∙◌, arith}
+use Rattle.std.proofs.Common.{◌≡◌, ℕ, ◌<◌, Bool, true, false, List, map, Option, Some, None, refl, sym, ap, subst, ◌∙◌, arith}
 use Rattle.std.specs.Prelude.{option_map, slice_get}
 use Rattle.asm_state.specs.declared.function.Function as state
 use Rattle.asm_state.specs.declared.function.FunctionKind.{FunctionKind}
@@ -11,7 +11,7 @@ use Rattle.asm_state.specs.Universe.{element}
 use Rattle.asm_syntax.specs.SourceTree as source
 use Rattle.asm_syntax.specs.SourceTree.{Spec}
 use Rattle.asm_syntax.specs.Tree.{Name, Term, Rule}
-use Rattle.asm_syntax.specs.PlainTree.{plain_term, plain_terms, plain_links, plain_rule, plain_rules, plain_branch}
+use Rattle.asm_syntax.specs.PlainTree.{plain_term, plain_rule}
 use Rattle.asm_check.specs.Faults.{IsWellFormed}
 use Rattle.asm_check.specs.Names as names
 use Rattle.asm_check.specs.Names.{Meaning, text_of}
@@ -24,8 +24,9 @@ use Rattle.asm_check.specs.declared.checked.NameNumber.TheVariants as number
 use Rattle.asm_check.proofs.CycleLemmas.Ranks.{ranks_exist}
 use Rattle.asm_meaning.specs.Declarations.{program_of, held_as, function_at, body_of, numbered}
 use Rattle.asm_meaning.specs.Program.{Declared, Universe, Enumerated, Derived, NamedRule, declared}
-use Rattle.asm_meaning.specs.Ranks.{UsesBelow, EachUsesBelow, LinksUseBelow, AreDerivedRanked, IsCallable, CallsBelow, EachCallsBelow, IsRanked}
+use Rattle.asm_meaning.specs.Ranks.{UsesBelow, IsUsable, AreDerivedRanked, IsCallable, CallsBelow, IsRanked}
 use Rattle.asm_meaning.specs.Value.{nesting}
+use Rattle.asm_meaning.proofs.CallsAndUses.{calls_weakened, uses_weakened}
 use Rattle.asm_meaning.proofs.MeantDeclarations.{program_declares}
 use Rattle.asm_check.specs.Laws.{NamesHaveNumbers, meaning_numbered}
 use Rattle.asm_check.proofs.NumberLemmas.NamesNumbered.{names_have_numbers}
@@ -129,35 +130,17 @@ program_calls law spec x ys Q is =
 -- ---- uses in a term without its paths
 
 module _ (law : NamesHaveNumbers) (spec : Spec) (rank : Name → ℕ) (n : ℕ) where
-  usable : (bound : List Name) (x : Name) → source_ranks.IsUsable spec rank n bound x → (free : names.is_among bound x ≡ false) → (xs : List Name) (t : Term) → declared (program_of spec) x ≡ Some (Derived xs t) → rank x < n
+  usable : (bound : List Name) (x : Name) → source_ranks.IsUsable spec rank n bound x → IsUsable (program_of spec) rank n bound x
   usable bound x h free xs t e =
       let d = derived_of_program xs t law spec x e in
       h free d.parameters d.body d.is_declared
-
-  mutual
-    plain_uses : (t : source.Term) (bound : List Name) → source_ranks.UsesBelow spec rank n t bound → UsesBelow (program_of spec) rank n (plain_term t) bound
-    plain_uses (source.Constant v) bound h = tt
-    plain_uses (source.Named x ts) bound h = (usable bound x.text h.0, each_plain ts bound h.1)
-    plain_uses (source.Chain t links) bound h = (plain_uses t bound h.0, links_plain links bound h.1)
-    plain_uses (source.Not t) bound h = plain_uses t bound h
-    plain_uses (source.Negative t) bound h = plain_uses t bound h
-    plain_uses (source.Exists x over t) bound h = plain_uses t (x.text ∷ bound) h
-    plain_uses (source.Every x over t) bound h = plain_uses t (x.text ∷ bound) h
-    plain_uses (source.Result x) bound h = (usable bound x.text h, tt)
-
-    each_plain : (ts : source.Terms) (bound : List Name) → source_ranks.EachUsesBelow spec rank n ts bound → EachUsesBelow (program_of spec) rank n (plain_terms ts) bound
-    each_plain source.no_terms bound h = tt
-    each_plain (source.term_then t ts) bound h = (plain_uses t bound h.0, each_plain ts bound h.1)
-
-    links_plain : (links : source.Links) (bound : List Name) → source_ranks.LinksUseBelow spec rank n links bound → LinksUseBelow (program_of spec) rank n (plain_links links) bound
-    links_plain source.no_links bound h = tt
-    links_plain (source.link_then o t links) bound h = (plain_uses t bound h.0, links_plain links bound h.1)
 
 ranked_by : NamesHaveNumbers → (spec : Spec) → IsWellFormed spec → AreDerivedRanked (program_of spec) (derived_rank spec)
 ranked_by law spec good x xs t e =
     let d = derived_of_program xs t law spec x e in
     let rank = derived_rank spec in
-    let below = plain_uses law spec rank (rank x) d.body (map text_of d.parameters) ((ranks_exist spec good).derived x d.parameters d.body d.is_declared) in
+    let below = uses_weakened (source_ranks.IsUsable spec rank (rank x)) (IsUsable (program_of spec) rank (rank x)) (usable law spec rank (rank x)) (plain_term d.body) (map text_of d.parameters)
+    ((ranks_exist spec good).derived x d.parameters d.body d.is_declared) in
     subst (λ ys. UsesBelow (program_of spec) rank (rank x) t ys) d.same_parameters
     (subst (λ s. UsesBelow (program_of spec) rank (rank x) s (map text_of d.parameters)) d.same_body below)
 
@@ -178,35 +161,13 @@ module _ (law : NamesHaveNumbers) (spec : Spec) (rank : Name → ℕ) (n : ℕ) 
     is_below = c.is_below;
   }
 
-  mutual
-    plain_calls : (R : source.Rule) → source_ranks.CallsBelow spec rank n R → CallsBelow (program_of spec) rank n (plain_rule R)
-    plain_calls source.Skip c = tt
-    plain_calls (source.Assign f ts t) c = tt
-    plain_calls (source.Call to f ts) c = callable f.text c
-    plain_calls (source.Par Ps) c = each_called Ps c
-    plain_calls (source.Seq Ps) c = each_called Ps c
-    plain_calls (source.If t P Q) c = (plain_calls P c.0, branch_called Q c.1)
-    plain_calls (source.Let x t P) c = plain_calls P c
-    plain_calls (source.Forall x u t P) c = plain_calls P c
-    plain_calls (source.Choose x u t P Q) c = (plain_calls P c.0, branch_called Q c.1)
-    plain_calls (source.Iterate P) c = plain_calls P c
-    plain_calls (source.While t P) c = (plain_calls P c, tt)
-    plain_calls (source.SetResult x t) c = tt
-
-    each_called : (Ps : source.Rules) → source_ranks.EachCallsBelow spec rank n Ps → EachCallsBelow (program_of spec) rank n (plain_rules Ps)
-    each_called source.no_rules c = tt
-    each_called (source.rule_then P Ps) c = (plain_calls P c.0, each_called Ps c.1)
-
-    branch_called : (Q : source.Branch) → source_ranks.BranchCallsBelow spec rank n Q → CallsBelow (program_of spec) rank n (plain_branch Q)
-    branch_called source.left_out c = tt
-    branch_called (source.written P) c = plain_calls P c
-
 rules_ranked_by : NamesHaveNumbers → (spec : Spec) → IsWellFormed spec → IsRanked (program_of spec) (rule_rank spec)
 rules_ranked_by law spec good f xs P e =
     let d = named_rule_of_program xs P law spec f e in
     let rank = rule_rank spec in
     subst (CallsBelow (program_of spec) rank (rank f)) d.same_body
-    (plain_calls law spec rank (rank f) d.body ((ranks_exist spec good).rules f d.parameters d.body d.is_declared))
+    (calls_weakened (source_ranks.IsCallable spec rank (rank f)) (IsCallable (program_of spec) rank (rank f)) (callable law spec rank (rank f)) (plain_rule d.body)
+    ((ranks_exist spec good).rules f d.parameters d.body d.is_declared))
 
 pub declared_ranks-rules : (spec : Spec) → IsWellFormed spec → IsRanked (program_of spec) (rule_rank spec)
 declared_ranks-rules spec good = rules_ranked_by names_have_numbers spec good

@@ -9,8 +9,9 @@ use Rattle.asm_state.specs.Location.{State}
 use Rattle.asm_syntax.specs.Tree.{Name, Term, Constant, Named, Chain, Not as not_term, Negative, Exists, Every, Terms, no_terms, term_then, Links, no_links, link_then}
 use Rattle.asm_meaning.specs.Program.{Program, Declared, Universe, Enumerated, Controlled, Static, Derived, NamedRule, declared, look_up, is_name, Environment, nothing_bound, with_value, with_term, with_location, bind_values, Binding, ToValue, ToTerm, ToLocation, bound_to}
 use Rattle.asm_meaning.specs.Value.{Use, inner, Reading, Readings, reading, readings, chained, applied, named, constants, reading_within, readings_of, value, values, is_true, read, universe, nesting}
-use Rattle.asm_meaning.specs.Ranks.{is_among, IsUsable, UsesBelow, EachUsesBelow, LinksUseBelow, AreDerivedRanked}
+use Rattle.asm_meaning.specs.Ranks.{is_among, UsesBelow, EachUsesBelow, LinksUseBelow, AreDerivedRanked}
 use Rattle.asm_meaning.specs.TermCases.{chain_value, ValuedByCases}
+use Rattle.asm_meaning.proofs.CallsAndUses.{higher}
 
 abbrev names : Readings → List Name
 names m = map (λ r. r.0) m
@@ -69,29 +70,6 @@ names-constants : (xs : List Name) (vs : List Value) → names (constants xs vs)
 names-constants [] vs = refl
 names-constants (x ∷ xs) [] = ap (λ ys. x ∷ ys) (names-constants xs [])
 names-constants (x ∷ xs) (v ∷ vs) = ap (λ ys. x ∷ ys) (names-constants xs vs)
-
--- uses below a number are below a greater one
-module _ (program : Program) (rank : Name → ℕ) (m n : ℕ) (up : m ≤ n) where
-  usable_higher : (bound : List Name) (x : Name) → IsUsable program rank m bound x → IsUsable program rank n bound x
-  usable_higher bound x c free xs t d = let below : rank x < m = c free xs t d in omega arith
-
-  mutual
-    pub higher : (t : Term) (bound : List Name) → UsesBelow program rank m t bound → UsesBelow program rank n t bound
-    higher (Constant v) bound c = tt
-    higher (Named x ts) bound c = (usable_higher bound x c.0, all_higher ts bound c.1)
-    higher (Chain t links) bound c = (higher t bound c.0, links_higher links bound c.1)
-    higher (not_term t) bound c = higher t bound c
-    higher (Negative t) bound c = higher t bound c
-    higher (Exists x u t) bound c = higher t (x ∷ bound) c
-    higher (Every x u t) bound c = higher t (x ∷ bound) c
-
-    pub all_higher : (ts : Terms) (bound : List Name) → EachUsesBelow program rank m ts bound → EachUsesBelow program rank n ts bound
-    all_higher no_terms bound c = tt
-    all_higher (term_then t ts) bound c = (higher t bound c.0, all_higher ts bound c.1)
-
-    pub links_higher : (links : Links) (bound : List Name) → LinksUseBelow program rank m links bound → LinksUseBelow program rank n links bound
-    links_higher no_links bound c = tt
-    links_higher (link_then o t links) bound c = (higher t bound c.0, links_higher links bound c.1)
 
 module _ (program : Program) (rank : Name → ℕ) (ranked : AreDerivedRanked program rank) where
   -- the body of a derived function, under its parameters alone

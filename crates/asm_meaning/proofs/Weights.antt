@@ -5,9 +5,9 @@ use Rattle.asm_state.specs.declared.operation.Op.{Op}
 use Rattle.asm_syntax.specs.Tree.{Name, Term, Constant, Named, Chain, Not, Negative, Exists, Every, Terms, no_terms, term_then, Links, no_links, link_then, Rule, Skip, Assign, Call, Par, Seq, If, Let, Forall, Choose, Iterate, Rules, no_rules, rule_then}
 use Rattle.asm_meaning.specs.Program.{Program, Declared, Universe, Enumerated, Controlled, Static, Derived, NamedRule, declared, is_name, Environment, nothing_bound, with_value, with_term, with_location, bind_values, Binding, ToValue, ToTerm, ToLocation, bound_to}
 use Rattle.asm_meaning.specs.Value.{nesting}
-use Rattle.asm_meaning.specs.Ranks.{is_among, UsesBelow, EachUsesBelow, LinksUseBelow, AreDerivedRanked, IsRanked, CallsBelow, EachCallsBelow, lower}
+use Rattle.asm_meaning.specs.Ranks.{is_among, UsesBelow, EachUsesBelow, LinksUseBelow, AreDerivedRanked, IsRanked, CallsBelow, EachCallsBelow}
 use Rattle.asm_meaning.specs.code.Weights.{names_of, used, size, sizes, link_sizes, size_within, load, weight, TermWeightsFall, called_size, rule_size, rule_sizes, rule_size_within, rule_weight, CallWeightsFall}
-use Rattle.asm_meaning.proofs.TermCases.{higher}
+use Rattle.asm_meaning.proofs.CallsAndUses.{lower, higher}
 
 -- ---- terms
 

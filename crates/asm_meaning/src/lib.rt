@@ -4,9 +4,9 @@
 
 pub mod below;
 pub mod choices;
+pub mod forming;
 pub mod found_candidate;
 pub mod laws;
-pub mod new_forming;
 pub mod outcome;
 pub mod part;
 pub mod part_set;

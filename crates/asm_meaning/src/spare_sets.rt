@@ -6,6 +6,7 @@ ghost use Rattle.std.specs.Prelude.{◌≡◌, ◌<◌, OnOk, IfOk, IfErr};
 ghost use Rattle.asm_state.specs.Signature.{Shape, count_of, location_at};
 ghost use Rattle.asm_state.specs.Updates.{UpdateSet, merge, one};
 ghost use Rattle.asm_updates.specs.code.Stands.{Stands, Adds};
+ghost use Rattle.asm_meaning.specs.code.FormedOutcomes.{KeepsForming};
 ghost use Rattle.asm_meaning.specs.code.PartSets.{IsPartSet};
 ghost use Rattle.asm_meaning.specs.declared.stopped.Stopped.TheVariants.{Memory};
 
@@ -76,13 +77,9 @@ pub fn keep_spare(spare: &mut Vec<Summary>, set: Summary) {
 /// is taken as it is.
 pub fn merge_part(so_far: &mut Summary, forming: &mut Forming) -> Result<(), Stopped>
     requires { forming.old.set.count ≡ so_far.old.count }
-    ensures count { forming.new.set.count ≡ forming.old.set.count }
-    ensures so_far_count { so_far.new.count ≡ so_far.old.count }
-    ensures path { forming.new.path.items ≡ forming.old.path.items }
-    ensures instances { forming.new.instances ≡ forming.old.instances }
+    ensures keeps { KeepsForming so_far.old so_far.new forming.old forming.new result }
     ensures merge { OnOk result ((shape : Shape) (U V : UpdateSet) → Stands shape so_far.old U → Stands shape forming.old.set V →
         Stands shape so_far.new (merge U V)) }
-    ensures stopped { IfErr result (λ stop. stop ≡ Memory) }
 {
     if so_far.is_empty() {
         mem::swap(so_far, &mut forming.set);
@@ -104,14 +101,10 @@ pub fn merge_update(
     requires location { n < count_of signature.now }
     requires so_far { so_far.old.count ≡ count_of signature.now }
     requires forming { forming.old.set.count ≡ count_of signature.now }
-    ensures count { forming.new.set.count ≡ forming.old.set.count }
-    ensures so_far_count { so_far.new.count ≡ so_far.old.count }
-    ensures path { forming.new.path.items ≡ forming.old.path.items }
-    ensures instances { forming.new.instances ≡ forming.old.instances }
+    ensures keeps { KeepsForming so_far.old so_far.new forming.old forming.new result }
     ensures part { IfOk result (λ part. IsPartSet (one (location_at signature.now n) value) part) }
     ensures merge { OnOk result ((U : UpdateSet) → Stands signature.now so_far.old U →
         Stands signature.now so_far.new (merge U (one (location_at signature.now n) value))) }
-    ensures stopped { IfErr result (λ stop. stop ≡ Memory) }
 {
     match signature.stray(n) {
         None => {

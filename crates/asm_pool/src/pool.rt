@@ -4,12 +4,9 @@
 //! of each lane. So it has drawn each task exactly once, and the workers ran exactly the tasks that
 //! their seats drew (`IsDoneByWorkers`).
 ghost use denote.Param.Send.{IsSend, IsSync};
-ghost use Rattle.std.specs.Prelude.{◌≡◌, ℕ, ◌^◌, ◌<◌, ◌≤◌, [], All, IfOk, IsOk, drop, vec_len, map};
-ghost use Rattle.std.specs.List.{range_with_len, concat};
-ghost use Rattle.std.specs.List.Sorted.{IsPermutation};
-ghost use Rattle.asm_pool.specs.code.WorkDone.{HasEachOnce, AllHaveDone, tasks_by};
-ghost use Rattle.asm_pool.specs.code.Pool.{IsRun, RunsTask, RunsLists};
-ghost use Rattle.asm_pool.specs.code.WorkersAndSeats.{AddsIdle, AreBoth, CanWork, HaveWorked};
+ghost use Rattle.std.specs.Prelude.{◌≡◌, ℕ, ◌^◌, ◌<◌, ◌≤◌, [], All, IfOk, IsOk, drop, vec_len};
+ghost use Rattle.asm_pool.specs.code.Pool.{Works};
+ghost use Rattle.asm_pool.specs.code.WorkersAndSeats.{AddsIdle, AreBoth, CanWork, HaveRunAll, HaveWorked};
 
 use crate::gate::Gate;
 use crate::gather::{Slots, gather};
@@ -125,9 +122,7 @@ fn work_lanes<
     requires room { count ≤ 2 ^ 63 }
     requires tasks { (n : ℕ) → n < count → J.has_task job.now n }
     requires hands { All (J.takes_hand job.now) hands.items }
-    ensures once { IfOk result (λ ws. HasEachOnce count (tasks_by ws.items)) }
-    ensures fit { IfOk result (λ ws. All (λ w. J.takes_hand job.now w.hand) ws.items) }
-    ensures hands { IfOk result (λ ws. AllHaveDone (IsRun (J.takes_hand job.now) (J.runs job.now)) hands.items ws.items) }
+    ensures { IfOk result (λ ws. HaveRunAll (J.takes_hand job.now) (J.runs job.now) count hands.items ws.items) }
 {
     let (lanes, seat) = Lanes::open(alloc, hands.len(), count)?;
     let (workers, seat) = work_halves(rt, alloc, &lanes, 0, job, hands, gate, seat)?;
@@ -170,9 +165,7 @@ fn work_all<
     requires room { count ≤ 2 ^ 63 }
     requires tasks { (n : ℕ) → n < count → J.has_task job.now n }
     requires hands { All (J.takes_hand job.now) hands.items }
-    ensures once { IfOk result (λ ws. HasEachOnce count (tasks_by ws.items)) }
-    ensures fit { IfOk result (λ ws. All (λ w. J.takes_hand job.now w.hand) ws.items) }
-    ensures hands { IfOk result (λ ws. AllHaveDone (IsRun (J.takes_hand job.now) (J.runs job.now)) hands.items ws.items) }
+    ensures ran { IfOk result (λ ws. HaveRunAll (J.takes_hand job.now) (J.runs job.now) count hands.items ws.items) }
     ensures idle { IfOk result (λ ws. All (λ w. w.done.items ≡ []) (drop max_workers ws.items)) }
 {
     let busy = hands.len().min(max_workers).min(count.max(1));
@@ -214,13 +207,7 @@ pub fn work_by<
     requires hands { vec_len hands ≡ lanes }
     requires tasks { (n : ℕ) → n < count → J.has_task job.now n }
     requires fit { All (J.takes_hand job.now) hands.items }
-    ensures len { IfOk result (λ w. (vec_len w.outs ≡ count) × (vec_len w.hands ≡ lanes) × (vec_len w.lists ≡ lanes)) }
-    ensures once { IfOk result (λ w. IsPermutation (range_with_len 0 count) (concat (map (λ list. list.items) w.lists.items))) }
-    ensures outs { IfOk result (λ w. (n : ℕ) → n < count → (before : H) × (after : H)
-        × RunsTask (J.takes_hand job.now) (J.runs job.now) w.outs.items before n after) }
-    ensures fit { IfOk result (λ w. All (J.takes_hand job.now) w.hands.items) }
-    ensures hands { IfOk result (λ w. RunsLists (J.takes_hand job.now) (J.runs job.now) w.outs.items hands.items
-        (map (λ list. list.items) w.lists.items) w.hands.items) }
+    ensures work { IfOk result (Works (J.takes_hand job.now) (J.runs job.now) lanes count hands.items) }
     ensures idle { IfOk result (λ w. All (λ list. vec_len list ≡ 0) (drop max_workers w.lists.items)) }
 {
     let out_slots = Slots::new(alloc, count)?;
@@ -248,13 +235,7 @@ pub fn work<
     requires hands { vec_len hands ≡ lanes }
     requires tasks { (n : ℕ) → n < count → J.has_task job.now n }
     requires fit { All (J.takes_hand job.now) hands.items }
-    ensures len { IfOk result (λ w. (vec_len w.outs ≡ count) × (vec_len w.hands ≡ lanes) × (vec_len w.lists ≡ lanes)) }
-    ensures once { IfOk result (λ w. IsPermutation (range_with_len 0 count) (concat (map (λ list. list.items) w.lists.items))) }
-    ensures outs { IfOk result (λ w. (n : ℕ) → n < count → (before : H) × (after : H)
-        × RunsTask (J.takes_hand job.now) (J.runs job.now) w.outs.items before n after) }
-    ensures fit { IfOk result (λ w. All (J.takes_hand job.now) w.hands.items) }
-    ensures hands { IfOk result (λ w. RunsLists (J.takes_hand job.now) (J.runs job.now) w.outs.items hands.items
-        (map (λ list. list.items) w.lists.items) w.hands.items) }
+    ensures { IfOk result (Works (J.takes_hand job.now) (J.runs job.now) lanes count hands.items) }
 {
     work_by(rt, alloc, lanes, lanes, count, job, hands, gate)
 }

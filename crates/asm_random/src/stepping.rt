@@ -1,6 +1,6 @@
 //! A step, under the choices of a script.
-ghost use Rattle.std.specs.Prelude.{◌≡◌, [], length, IfErr, IfOk};
-ghost use Rattle.asm_state.specs.Signature.{count_of, state_of};
+ghost use Rattle.std.specs.Prelude.{◌≡◌, [], length, IfOk};
+ghost use Rattle.asm_state.specs.Signature.{count_of};
 ghost use Rattle.asm_syntax.specs.code.Views.{spec_of};
 ghost use Rattle.asm_check.specs.Faults.{inits};
 ghost use Rattle.asm_check.specs.Shapes.{shape_of};
@@ -11,7 +11,7 @@ ghost use Rattle.asm_meaning.specs.Program.{nothing_bound};
 ghost use Rattle.asm_meaning.specs.code.TermValues.{shown};
 ghost use Rattle.asm_eval.specs.code.Evaluation.{HasLocations, evaluation_shape, evaluation_state};
 ghost use Rattle.asm_explore.specs.Conditions.{IsSpecified, holds_in};
-ghost use Rattle.asm_random.specs.code.Replay.{GoesWrong, IsStep};
+ghost use Rattle.asm_random.specs.code.Replay.{MakesStep};
 
 use asm_eval::evaluation::Evaluation;
 use asm_eval::form::form;
@@ -19,7 +19,6 @@ use asm_eval::frame::Frame;
 use asm_eval::regions::OnThisThread;
 use asm_explore::{Fault, Machine, ResolvedQuestion};
 use asm_meaning::laws::from_nothing_laws;
-use asm_meaning::new_forming::{new_forming, outcome_of};
 use asm_meaning::{Choices, Forming, Outcome, Stopped, View};
 use asm_reader::Picks;
 use asm_resolve::laws::resolving_laws;
@@ -65,14 +64,14 @@ fn step_outcome<P: Picks>(
         IfOk result (IsFormed (shape_of s) (does (program_of s) specified.now.turns (P.script choices.now.script.now) choices.now.step (shown view.now) nothing_bound [] (main_rule s (inits s)))) }
 {
     from_nothing_laws::<()>();
-    let mut forming = new_forming(alloc, view.signature, &[])?;
+    let mut forming = Forming::at(alloc, view.signature, &[])?;
     let evaluation = Evaluation {
         view,
         choices,
         turns: specified.turns,
     };
     let formed = form_main(alloc, specified, &evaluation, &mut forming);
-    outcome_of(forming, formed)
+    forming.into_outcome(formed)
 }
 
 /// The state that the step leads to, if it isn't faulty.
@@ -84,11 +83,8 @@ fn next_state<P: Picks>(
 ) -> Result<Result<State, Fault>, AllocError>
     requires sound { IsSpecified specified.now }
     requires whole { length state.now ≡ count_of (shape_of (spec_of specified.now.checked.now.spec)) }
-    ensures whole { IfOk result (λ ended. IfOk ended (λ B. length B ≡ count_of (shape_of (spec_of specified.now.checked.now.spec)))) }
-    ensures step { let s = spec_of specified.now.checked.now.spec in
-        IfOk result (λ ended. IfOk ended (λ B. IsStep (specification_of s) specified.now.turns (P.script choices.now.script.now) choices.now.step (state_of (shape_of s) state.now) (state_of (shape_of s) B))) }
-    ensures wrong { let s = spec_of specified.now.checked.now.spec in
-        IfOk result (λ ended. IfErr ended (GoesWrong (specification_of s) specified.now.turns (P.script choices.now.script.now) (holds_in (shape_of s) specified.now.always.now) choices.now.step (state_of (shape_of s) state.now))) }
+    ensures { let s = spec_of specified.now.checked.now.spec in
+        IfOk result (MakesStep (specification_of s) specified.now.turns (P.script choices.now.script.now) (holds_in (shape_of s) specified.now.always.now) choices.now.step (shape_of s) state.now) }
 {
     let signature = specified.checked.signature();
     let nothing = Summary::new(alloc, signature.count());
@@ -113,11 +109,8 @@ pub(crate) fn step_from<P: Picks>(
 ) -> Result<Result<State, Fault>, AllocError>
     requires sound { IsSpecified specified.now }
     requires whole { length state.now ≡ count_of (shape_of (spec_of specified.now.checked.now.spec)) }
-    ensures whole { IfOk result (λ ended. IfOk ended (λ B. length B ≡ count_of (shape_of (spec_of specified.now.checked.now.spec)))) }
-    ensures step { let s = spec_of specified.now.checked.now.spec in
-        IfOk result (λ ended. IfOk ended (λ B. IsStep (specification_of s) specified.now.turns (P.script choices.now.script.now) choices.now.step (state_of (shape_of s) state.now) (state_of (shape_of s) B))) }
-    ensures wrong { let s = spec_of specified.now.checked.now.spec in
-        IfOk result (λ ended. IfErr ended (GoesWrong (specification_of s) specified.now.turns (P.script choices.now.script.now) (holds_in (shape_of s) specified.now.always.now) choices.now.step (state_of (shape_of s) state.now))) }
+    ensures { let s = spec_of specified.now.checked.now.spec in
+        IfOk result (MakesStep (specification_of s) specified.now.turns (P.script choices.now.script.now) (holds_in (shape_of s) specified.now.always.now) choices.now.step (shape_of s) state.now) }
 {
     match next_state(alloc, specified, choices, state)? {
         Err(fault) => Ok(Err(fault)),

@@ -11,6 +11,7 @@ use Rattle.std.specs.Char.{is_ascii_digit}
 use Rattle.std.specs.List.{list_all, list_any, slice_split}
 use Rattle.std.specs.Str.{bytes_eq}
 use Rattle.std.specs.Str.Lines.{strip_carriage_return}
+use Rattle.asm_syntax.specs.Tokens.{max_length}
 use Rattle.asm_syntax.specs.code.Fronts.{value_of}
 use Rattle.asm_reader.specs.ScriptLines.{SaidLine, ForStep, ForEvery, Script, script_of, is_line_of, is_line_at}
 use Rattle.asm_reader.specs.declared.script.When.{When}
@@ -19,7 +20,7 @@ use Rattle.asm_reader.specs.declared.script_error.ScriptError.{ScriptError}
 use Rattle.asm_reader.specs.declared.script_error.ScriptError.TheVariants.{BadLine, Repeated, TooLong}
 
 abbrev pub max_script : ℕ
-max_script = 1_048_576
+max_script = max_length
 
 -- between line feeds; a carriage return before one, or before the end, is dropped
 abbrev pub lines_of : List ℕ → List (List ℕ)

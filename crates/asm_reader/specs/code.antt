@@ -1,6 +1,7 @@
 -- Bridge to the code. What connects the definitions of this crate to its code.
 pub mod ExactLines
 pub mod LinesSaid
+pub mod Parsing
 pub mod PathNumbers
 pub mod Reading
 pub mod RuleReading

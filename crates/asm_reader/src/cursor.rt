@@ -12,6 +12,9 @@ use crate::error::ReadError;
 use asm_state::number::{MAX_NUMBER, Number};
 use asm_syntax::{InputError, Kind, Token};
 
+/// What is read, or why it isn't.
+pub type Read<A> = Result<A, InputError<ReadError>>;
+
 /// Whether the two are one kind, or both numbers.
 pub fn alike(a: Kind, b: Kind) -> bool
     ensures { result ≡ kinds.alike a b }
@@ -108,7 +111,7 @@ impl<'a> Cursor<'a> {
     }
 
     /// Takes the next token, which has to be a number.
-    pub fn number(&mut self, is_negative: bool) -> Result<Number, InputError<ReadError>>
+    pub fn number(&mut self, is_negative: bool) -> Read<Number>
         ensures read { Reads itself (steps.number_at is_negative self.old.rest.now) result self.new.rest.now }
         ensures memory { IfErr result (λ e. e ≢ Memory) }
     {
@@ -129,7 +132,7 @@ impl<'a> Cursor<'a> {
     }
 
     /// Takes the next token, which has to be one of the table.
-    pub fn choice<A: Copy>(&mut self, table: &[(Kind, A)]) -> Result<A, InputError<ReadError>>
+    pub fn choice<A: Copy>(&mut self, table: &[(Kind, A)]) -> Read<A>
         ensures read { Reads itself (steps.choice_at table.now self.old.rest.now) result self.new.rest.now }
         ensures memory { IfErr result (λ e. e ≢ Memory) }
     {
@@ -146,7 +149,7 @@ impl<'a> Cursor<'a> {
     }
 
     /// Takes the next token, which has to be of this kind.
-    pub fn expect(&mut self, kind: Kind) -> Result<Token, InputError<ReadError>>
+    pub fn expect(&mut self, kind: Kind) -> Read<Token>
         ensures read { Reads itself (steps.expect kind self.old.rest.now) result self.new.rest.now }
         ensures memory { IfErr result (λ e. e ≢ Memory) }
     {
@@ -163,7 +166,7 @@ impl<'a> Cursor<'a> {
     }
 
     /// Takes the next token, which has to be of this kind and opens a level. `levels` may open.
-    pub fn enter(&mut self, kind: Kind, levels: usize) -> Result<Token, InputError<ReadError>>
+    pub fn enter(&mut self, kind: Kind, levels: usize) -> Read<Token>
         ensures read { Reads itself (steps.enter levels kind self.old.rest.now) result self.new.rest.now }
         ensures left { OnOk result (0 < levels) }
         ensures memory { IfErr result (λ e. e ≢ Memory) }

@@ -6,12 +6,13 @@ ghost use Rattle.asm_reader.specs.TermGrammar as grammar;
 ghost use Rattle.asm_reader.specs.code.TermReading as reading;
 ghost use Rattle.asm_reader.specs.code.Reading.{names_at};
 ghost use Rattle.asm_reader.specs.code.ViewsOfParts.{names_of};
-ghost use Rattle.asm_reader.specs.code.Steps.{Reads, each_of};
+ghost use Rattle.asm_reader.specs.code.Parsing.{Parses};
+ghost use Rattle.asm_reader.specs.code.Steps.{each_of};
 
-use crate::cursor::Cursor;
-use crate::error::ReadError;
+use crate::cursor::Read;
+use crate::parser::Parser;
 use asm_syntax::name::{Name, Text};
-use asm_syntax::{InputError, Keyword, Kind, Token};
+use asm_syntax::{Keyword, Kind, Token};
 use std::alloc::{AllocError, Global};
 
 /// The bytes from `start` to `end`, as far as there are any.
@@ -37,63 +38,48 @@ fn named(alloc: Global, text: &[u8], token: Token) -> Result<Name, AllocError>
     })
 }
 
-/// A name.
-#[tactic(auto, unfolding(crate::specs::code::TermReading::name_at))]
-pub fn name(
-    alloc: Global,
-    text: &[u8],
-    tokens: &mut Cursor<'_>,
-) -> Result<Name, InputError<ReadError>>
-    ensures { Reads name_of (reading.name_at text.now tokens.old.rest.now) result tokens.new.rest.now }
-{
-    let token = tokens.expect(Kind::Name)?;
-    Ok(named(alloc, text, token)?)
-}
-
-/// The word `result`, as a name.
-#[tactic(auto, unfolding(crate::specs::code::TermReading::result_at))]
-pub fn result_word(
-    alloc: Global,
-    text: &[u8],
-    tokens: &mut Cursor<'_>,
-) -> Result<Name, InputError<ReadError>>
-    ensures { Reads name_of (reading.result_at text.now tokens.old.rest.now) result tokens.new.rest.now }
-{
-    let token = tokens.expect(Kind::Keyword(Keyword::Result))?;
-    Ok(named(alloc, text, token)?)
-}
-
-/// A name, and after `in` the name of what it ranges over.
-#[tactic(auto, unfolding(crate::specs::code::TermReading::binding_at))]
-pub fn binding(
-    alloc: Global,
-    text: &[u8],
-    tokens: &mut Cursor<'_>,
-) -> Result<(Name, Name), InputError<ReadError>>
-    ensures { Reads names_of (reading.binding_at text.now tokens.old.rest.now) result tokens.new.rest.now }
-{
-    let bound = name(alloc, text, tokens)?;
-    tokens.expect(Kind::Keyword(Keyword::In))?;
-    let over = name(alloc, text, tokens)?;
-    Ok((bound, over))
-}
-
-/// Names with tokens of this kind between, and one at least.
-pub fn names(
-    alloc: Global,
-    text: &[u8],
-    tokens: &mut Cursor<'_>,
-    between: Kind,
-) -> Result<Vec<Name>, InputError<ReadError>>
-    ensures { Reads (each_of name_of) (names_at text.now between tokens.old.rest.now) result tokens.new.rest.now }
-{
-    let mut all = Vec::with_capacity(alloc, 1)?;
-    let first = name(alloc, text, tokens)?;
-    all.push(first)?;
-    while tokens.sees(between) {
-        tokens.expect(between)?;
-        let next = name(alloc, text, tokens)?;
-        all.push(next)?;
+impl<'a> Parser<'a> {
+    /// A name.
+    #[tactic(auto, unfolding(crate::specs::code::TermReading::name_at))]
+    pub(crate) fn name(&mut self) -> Read<Name>
+        ensures { Parses name_of (reading.name_at self.old.text.now) self.old self.new result }
+    {
+        let token = self.tokens.expect(Kind::Name)?;
+        Ok(named(self.alloc, self.text, token)?)
     }
-    Ok(all)
+
+    /// The word `result`, as a name.
+    #[tactic(auto, unfolding(crate::specs::code::TermReading::result_at))]
+    pub(crate) fn result_word(&mut self) -> Read<Name>
+        ensures { Parses name_of (reading.result_at self.old.text.now) self.old self.new result }
+    {
+        let token = self.tokens.expect(Kind::Keyword(Keyword::Result))?;
+        Ok(named(self.alloc, self.text, token)?)
+    }
+
+    /// A name, and after `in` the name of what it ranges over.
+    #[tactic(auto, unfolding(crate::specs::code::TermReading::binding_at))]
+    pub(crate) fn binding(&mut self) -> Read<(Name, Name)>
+        ensures { Parses names_of (reading.binding_at self.old.text.now) self.old self.new result }
+    {
+        let bound = self.name()?;
+        self.tokens.expect(Kind::Keyword(Keyword::In))?;
+        let over = self.name()?;
+        Ok((bound, over))
+    }
+
+    /// Names with tokens of this kind between, and one at least.
+    pub(crate) fn names(&mut self, between: Kind) -> Read<Vec<Name>>
+        ensures { Parses (each_of name_of) (names_at self.old.text.now between) self.old self.new result }
+    {
+        let mut all = Vec::with_capacity(self.alloc, 1)?;
+        let first = self.name()?;
+        all.push(first)?;
+        while self.tokens.sees(between) {
+            self.tokens.expect(between)?;
+            let next = self.name()?;
+            all.push(next)?;
+        }
+        Ok(all)
+    }
 }

@@ -4,6 +4,7 @@ ghost use Rattle.std.specs.Prelude.{◌≡◌, ◌≢◌, ◌<◌, ℕ, List, []
 ghost use Rattle.asm_syntax.specs.declared.error.LexError.TheVariants.{TooLong};
 ghost use Rattle.asm_syntax.specs.declared.input_error.InputError.TheVariants.{Memory, Named};
 ghost use Rattle.asm_syntax.specs.code.Lexing.{HasFirstToken};
+ghost use Rattle.asm_syntax.specs.Tokens.{max_length};
 ghost use Rattle.asm_syntax.specs.SourceTree as source;
 ghost use Rattle.asm_syntax.specs.code.Views.{spec_of};
 ghost use Rattle.asm_reader.specs.declared.error.ReadError.TheVariants.{Lex};
@@ -12,7 +13,7 @@ ghost use Rattle.asm_reader.specs.Refusals.{ExplainsTokens, Explains};
 
 use crate::cursor::Cursor;
 use crate::error::ReadError;
-use crate::items;
+use crate::parser::Parser;
 use asm_syntax::spec::Spec;
 use asm_syntax::{InputError, Token, one_list_of_tokens, tokens};
 use std::alloc::Global;
@@ -21,15 +22,23 @@ use std::alloc::Global;
 const MAX_NESTING: usize = 64;
 
 /// The specification that the tokens of the text spell.
-fn read_tokens(alloc: Global, text: &[u8], tokens: &[Token]) -> Result<Spec, InputError<ReadError>>
+fn read_tokens<'a>(
+    alloc: Global,
+    text: &'a [u8],
+    tokens: &'a [Token],
+) -> Result<Spec, InputError<ReadError>>
     ensures found { IfOk result (λ s. AreSpelling text.now tokens.now (spec_of s)) }
     ensures refused { IfErr result (ExplainsTokens text.now tokens.now) }
     ensures accepted { (s : source.Spec) → AreSpelling text.now tokens.now s → IfErr result (λ e. e ≡ Memory) }
     ensures memory { tokens.now ≡ [] → IfErr result (λ e. e ≢ Memory) }
 {
-    let mut cursor = Cursor { rest: tokens };
-    let read = items::specification(alloc, text, &mut cursor, MAX_NESTING)?;
-    match cursor.rest {
+    let mut parser = Parser {
+        alloc,
+        text,
+        tokens: Cursor { rest: tokens },
+    };
+    let read = parser.specification(MAX_NESTING)?;
+    match parser.tokens.rest {
         [] => Ok(read),
         [token, ..] => Err(InputError::Named(ReadError::Unexpected { at: token.start })),
     }
@@ -39,7 +48,7 @@ fn read_tokens(alloc: Global, text: &[u8], tokens: &[Token]) -> Result<Spec, Inp
 pub fn read(alloc: Global, text: &[u8]) -> Result<Spec, InputError<ReadError>>
     ensures found { IfOk result (λ s. IsSpecification text.now (spec_of s)) }
     ensures refused { IfErr result (Explains text.now) }
-    ensures too_long { 1_048_576 < length text.now → result ≡ Err (Named (Lex TooLong)) }
+    ensures too_long { max_length < length text.now → result ≡ Err (Named (Lex TooLong)) }
     // Memory is asked for where a first token is, and nowhere before.
     ensures memory { IfErr result (λ e. e ≡ Memory → HasFirstToken text.now) }
     // A text that spells a specification is refused only if memory runs out.

@@ -13,11 +13,11 @@ use crate::path_numbers::PathNumbers;
 use crate::script::Script;
 use crate::script_error::ScriptError;
 use crate::script_line::{is_skipped, line_said, parts, without_return};
-use asm_syntax::InputError;
+use asm_syntax::{InputError, MAX_LENGTH};
 use std::alloc::Global;
 
 /// The most bytes that a script may have.
-const MAX_SCRIPT: usize = 1_048_576;
+pub const MAX_SCRIPT: usize = MAX_LENGTH;
 
 /// What the lines say.
 fn read_lines(alloc: Global, lines: &[&[u8]]) -> Result<PathNumbers, InputError<ScriptError>>
@@ -46,7 +46,7 @@ fn read_lines(alloc: Global, lines: &[&[u8]]) -> Result<PathNumbers, InputError<
 pub fn read_script(alloc: Global, text: &[u8]) -> Result<Script, InputError<ScriptError>>
     ensures found { IfOk result (λ s. IsScript text.now s) }
     ensures refused { IfErr result (ExplainsScript text.now) }
-    ensures too_long { 1_048_576 < length text.now → result ≡ Err (Named TooLong) }
+    ensures too_long { max_script < length text.now → result ≡ Err (Named TooLong) }
     // A text that spells a script is refused only if memory runs out.
     ensures accepted { (s : lines.Script) → IsScript text.now s → IfErr result (λ e. e ≡ Memory) }
 {

@@ -4,13 +4,9 @@ use Rattle.std.specs.Prelude.{IfErr}
 use Rattle.asm_syntax.specs.code.Lexing.{HasFirstToken}
 use Rattle.asm_syntax.specs.SourceTree.{Spec}
 use Rattle.asm_syntax.specs.Tokens.{AreTokens}
-use Rattle.asm_syntax.specs.declared.input_error.InputError.{InputError}
-use Rattle.asm_syntax.specs.declared.input_error.InputError.TheVariants as refused
 use Rattle.asm_syntax.specs.declared.token.Token.{Token}
-use Rattle.asm_reader.specs.declared.error.ReadError.{ReadError}
 use Rattle.asm_reader.specs.Grammar.{specification, specification_over}
 use Rattle.asm_reader.specs.Specification.{AreSpelling, IsSpecification}
-use Rattle.asm_run.specs.code.RefusedRuns.{run_error_of_read}
 use Rattle.asm_run.specs.declared.end.End.{End}
 use Rattle.asm_run.specs.declared.error.RunError.{RunError}
 use Rattle.asm_run.specs.declared.error.RunError.TheVariants as error
@@ -29,12 +25,7 @@ first_token text s h = by_tokens h.0 h.1 h.2
     by_tokens [] are spells = absurd (no_tokens text s spells.0)
     by_tokens (t ∷ ts) are spells = (are.0, t, t.end, are.3.0, (are.3.0, are.3.1, are.3.2, (refl, refl)))
 
--- if memory ran out while the text was read
-pub memory_read : (text : List ℕ) (r : InputError ReadError) → (r ≡ refused.Memory → HasFirstToken text) → run_error_of_read r ≡ error.Memory → HasFirstToken text
-memory_read text refused.Memory h is = h refl
-memory_read text (refused.Named e) h is = absurd cc
-
--- and if it ran out after that
+-- if memory ran out behind the text
 pub memory_later : (text : List ℕ) (s : Spec) → IsSpecification text s → (result : Result End RunError) → IfErr result (λ e. e ≡ error.Memory → HasFirstToken text)
 memory_later text s spelled (Ok e) = tt
 memory_later text s spelled (Err e) = λ is. first_token text s spelled

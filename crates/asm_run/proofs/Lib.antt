@@ -2,7 +2,6 @@ mod Exclusion
 mod FirstTokens
 pub mod FormedSet
 pub mod LocationFunctions
-mod RangeLaws
 mod RunSoFar
 pub mod StepEnds
 pub mod ProperLocations

@@ -34,7 +34,7 @@ use Rattle.asm_run.specs.Trace.{TraceNames, IsEndText, step_text, exhausted_line
 use Rattle.asm_run.specs.Written.{names_in, locations_in, contents_text}
 use Rattle.asm_run.specs.Headline.{IsReturned, book_run}
 use Rattle.asm_run.specs.code.Step.{main_outcome, AreSized, IsFired, IsAtFault, IsStopped, Finishes, fault_line, end_of_fault, stop_line, end_of_stop}
-use Rattle.asm_run.specs.code.RunSoFar.{IsReached, Runs, GoesOnFrom}
+use Rattle.asm_run.specs.code.RunSoFar.{IsReached, RunsSteps, GoesOnFrom}
 use Rattle.asm_run.proofs.TextLemmas.StepText.{state_written}
 use Rattle.asm_run.proofs.RunSoFar.{reached_more, cut_in_step, written_at_end, cut_at_end, whole_steps}
 
@@ -101,7 +101,7 @@ module _ (s : Spec) (good : IsWellFormed s) (turns : ℕ) (script : Script) (ste
   left_of n i values = left s turns script n i (state_of (shape_of s) values)
 
   abbrev now : Bool → Option (List ℕ) → Result End RunError → Type 0
-  now failed new result = Runs called locations old new failed (book_run s turns script steps) result
+  now failed new result = RunsSteps called locations old new failed (book_run s turns script steps) result
 
   -- memory ran out
   pub out_of_memory : now failed mid (Err error.Memory)
@@ -207,7 +207,7 @@ module _ (s : Spec) (good : IsWellFormed s) (turns : ℕ) (script : Script) (ste
 
 -- memory ran out before the first step
 pub none_begun : (s : Spec) (turns : ℕ) (script : Script) (steps : ℕ) (bytes : Option (List ℕ)) (failed : Bool) → failed ≡ false
-    → Runs (names_in s) (locations_in s) bytes bytes failed (book_run s turns script steps) (Err error.Memory)
+    → RunsSteps (names_in s) (locations_in s) bytes bytes failed (book_run s turns script steps) (Err error.Memory)
 none_begun s turns script steps bytes failed is_open = (record { count = 0; appended = Appends-none bytes }, is_open)
 
 -- before the first step

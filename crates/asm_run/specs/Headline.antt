@@ -6,11 +6,15 @@
 --     book_run s turns script steps      the run of s under the script
 --     IsWritten, IsCut, AreWholeSteps    what the bytes of the sink grew by
 --     Explains                           what a refusal says
-use Rattle.std.specs.Prelude.{◌≡◌, ◌⊎◌, ℕ, false, true, List, [], ◌++◌, take, Option}
+--     Runs                               what the call that makes the run promises
+use Rattle.std.specs.Prelude.{◌≡◌, ◌⊎◌, ◌↔◌, ◌<◌, ℕ, Bool, false, true, List, [], ◌++◌, length, take, Option, Result, Err, IsTrue, IfOk, IfErr}
 use Rattle.std.specs.Io.KnownBytes.{Appends}
 use Rattle.asm_state.specs.Location.{Location}
 use Rattle.asm_state.specs.Updates.{Range, Clash, Outside, IsFirstFault}
+use Rattle.asm_syntax.specs.declared.error.LexError.TheVariants.{TooLong}
 use Rattle.asm_syntax.specs.SourceTree.{Spec}
+use Rattle.asm_syntax.specs.code.Lexing.{HasFirstToken}
+use Rattle.asm_reader.specs.declared.error.ReadError.TheVariants.{Lex}
 use Rattle.asm_reader.specs.Specification.{IsSpecification}
 use Rattle.asm_reader.specs.Refusals.{IsRefusal}
 use Rattle.asm_check.specs.declared.error.CheckError.{CheckError}
@@ -103,3 +107,17 @@ module _ (text script_text : List ℕ) (limits : Limits) (old new : Option (List
       (s : Spec) × IsAccepted text s × (script : Script) × IsScript script_text script × (are_in_range limits ≡ false) × IsUnwritten old new
   Explains error.Memory = IsUnwritten old new ⊎ IsBegun (λ s r. AreWholeSteps (names_in s) (locations_in s) 1 old new r)
   Explains error.Write = IsBegun (λ s r. IsCut (names_in s) (locations_in s) 1 old new r)
+
+  -- what the call that makes the run promises
+  pub record Runs (has_failed : Bool) (result : Result End RunError) : Type 0 where
+    -- The bytes grew by the trace of the book's run, and by nothing else.
+    pub done : IfOk result IsDone
+    -- What a refusal says of the text, of the script, of the limits, and of what was written. Those
+    -- of texts and limits exclude one another, and a run (`laws`).
+    pub refused : IfErr result Explains
+    -- A text that is too long is refused as that, whatever memory there is.
+    pub too_long : 1_048_576 < length text → result ≡ Err (error.Read (Lex TooLong))
+    -- Memory is asked for only if the text has a first token, and not before it.
+    pub memory : IfErr result (λ e. e ≡ error.Memory → HasFirstToken text)
+    -- The sink failed exactly if that is the result.
+    pub failed : IsTrue has_failed ↔ (result ≡ Err error.Write)

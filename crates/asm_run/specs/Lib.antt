@@ -1,6 +1,5 @@
 pub mod Sink
 pub mod Through
-pub mod RangeLaws
 pub mod Trace
 pub mod Written
 pub mod Headline

@@ -7,7 +7,6 @@ ghost use Rattle.asm_run.specs.code.Hands.{IsNewHand, logs_of, parts_of};
 use asm_meaning::Forming;
 use asm_state::signature::Signature;
 use asm_striped::{StripeSeat, Striped};
-use asm_updates::summary::Summary;
 use std::alloc::{AllocError, Global};
 
 /// A worker's seat at the table of a region, and where it forms the set of a piece. Between two
@@ -26,12 +25,7 @@ impl RegionHand {
     {
         RegionHand {
             seat,
-            own: Forming {
-                set: Summary::new(alloc, signature.count()),
-                instances: 0,
-                path: Vec::new(alloc),
-                spare: Vec::new(alloc),
-            },
+            own: Forming::new(alloc, signature),
         }
     }
 }

@@ -3,7 +3,7 @@
 //! If a task is refused memory, it returns the refusal, and puts nothing into the table. The other
 //! tasks go on. When all are done, the region returns the refusal, so the run ends with `Memory`
 //! after whole steps.
-ghost use Rattle.std.specs.Prelude.{◌≡◌, ◌<◌, IfErr, IfOk, IfSome, None, [], false};
+ghost use Rattle.std.specs.Prelude.{◌≡◌, ◌<◌, IfOk, IfSome, false};
 ghost use Rattle.asm_state.specs.Signature.{count_of};
 ghost use Rattle.asm_state.specs.Updates.{none};
 ghost use Rattle.asm_updates.specs.code.Stands.{Stands};
@@ -11,8 +11,8 @@ ghost use Rattle.asm_code.specs.code.RuleViews.{rule_of};
 ghost use Rattle.asm_eval.specs.code.OpenedPieces.{Gives, is_closed_part};
 ghost use Rattle.asm_eval.specs.code.Pieces.{IsPiece, piece_yields};
 ghost use Rattle.asm_eval.specs.code.Evaluation.{evaluation_shape};
-ghost use Rattle.asm_run.specs.code.Hands.{LogGrows, TakesHand};
-ghost use Rattle.asm_run.specs.code.Rounds.{IsTask, IsTaskRun, Leaves, RunsPiece, is_short};
+ghost use Rattle.asm_run.specs.code.Hands.{TakesHand};
+ghost use Rattle.asm_run.specs.code.Rounds.{IsTask, Leaves, LeavesWhole, RunsPiece, is_short};
 
 use crate::hand::RegionHand;
 use crate::put_set::put_set;
@@ -96,9 +96,8 @@ fn put_piece<'a, P: Picks>(
     requires hand { TakesHand (evaluation_shape job.now.evaluation.now) job.now.striped.now.table hand.old }
     ensures table { hand.new.seat.table ≡ hand.old.seat.table }
     ensures count { hand.new.own.set.count ≡ hand.old.own.set.count }
-    ensures worked { let at = job.now.evaluation.now in let o = piece_yields at piece.now in
-        IfOk result (λ out. IsTaskRun at (evaluation_shape at) None task o hand.old.seat out hand.new.seat) }
-    ensures refused { IfErr result (λ _. LogGrows hand.old.seat [] hand.new.seat) }
+    ensures leaves { let at = job.now.evaluation.now in
+        LeavesWhole at (evaluation_shape at) task (piece_yields at piece.now) hand.old.seat hand.new.seat result }
 {
     hand.own.instances = 0;
     match form_piece(job.alloc, job.evaluation, piece, &mut hand.own) {
@@ -125,9 +124,8 @@ fn close_piece<'a, P: Picks>(
     requires count { job.now.striped.now.count ≡ count_of (evaluation_shape job.now.evaluation.now) }
     requires hand { TakesHand (evaluation_shape job.now.evaluation.now) job.now.striped.now.table hand.old }
     ensures hand { TakesHand (evaluation_shape job.now.evaluation.now) job.now.striped.now.table hand.new }
-    ensures worked { let at = job.now.evaluation.now in let o = piece_yields at piece.now in
-        IfOk result (λ out. IsTaskRun at (evaluation_shape at) None task o hand.old.seat out hand.new.seat) }
-    ensures refused { IfErr result (λ _. LogGrows hand.old.seat [] hand.new.seat) }
+    ensures leaves { let at = job.now.evaluation.now in
+        LeavesWhole at (evaluation_shape at) task (piece_yields at piece.now) hand.old.seat hand.new.seat result }
 {
     let worked = put_piece(job, piece, task, hand);
     hand.own.set.clear();

@@ -1,6 +1,5 @@
-//! Laws of traces, of refusals and of limits.
+//! Laws of traces and of refusals.
 ghost use Rattle.asm_run.specs.code.Traces.{OneTrace, SomeTrace};
-ghost use Rattle.asm_run.specs.RangeLaws.{RangeLaws};
 ghost use Rattle.asm_run.specs.ResultsTell.{ResultsTell};
 ghost use Rattle.asm_run.specs.code.Exclusion.{OneNamedRefusal, NoRunBesideARefusal, RunOrRefusal};
 
@@ -54,9 +53,4 @@ pub fn run_or_refusal()
 /// is refused.
 pub fn results_tell()
     ensures { ResultsTell }
-{}
-
-/// The ranges of the limits.
-pub fn range_laws()
-    ensures { RangeLaws }
 {}

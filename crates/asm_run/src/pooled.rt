@@ -21,7 +21,6 @@ use asm_eval::outcome::whole;
 use asm_eval::piece::Piece;
 use asm_eval::regions::{FormedBy, OnThisThread, RegionOutcome};
 use asm_limits::run_limits::Limits;
-use asm_meaning::new_forming::{new_forming, outcome_of};
 use asm_meaning::{Choices, Forming, Outcome, Part, Path, Stopped, View};
 use asm_pool::{Gate, PoolError};
 use asm_reader::Picks;
@@ -106,9 +105,9 @@ impl<'r, R: Threads + Sync, G: Gate + Sync> Pooled<'r, R, G> {
         requires framed { IsSoundFrame (evaluation_shape evaluation.now) frame.now }
         ensures { IfOk result (IsFormed (evaluation_shape evaluation.now) (rule_at evaluation.now frame.now path.now (rule_of rule.now))) }
     {
-        let mut forming = new_forming(alloc, evaluation.view.signature, path)?;
+        let mut forming = Forming::at(alloc, evaluation.view.signature, path)?;
         let formed = self.form(alloc, evaluation, frame, rule, &mut forming);
-        outcome_of(forming, formed)
+        forming.into_outcome(formed)
     }
 
     /// Forms what the rule yields at the path where the evaluation is, as `form` does. The

@@ -11,7 +11,7 @@ ghost use Rattle.asm_meaning.specs.Does as does;
 ghost use Rattle.asm_eval.specs.code.OpenedPieces.{pieces_yield};
 ghost use Rattle.asm_eval.specs.code.Pieces.{IsPiece};
 ghost use Rattle.asm_eval.specs.code.Evaluation.{evaluation_shape};
-ghost use Rattle.asm_limits.specs.declared.run_limits.TheConstants.{WORKERS};
+ghost use Rattle.asm_limits.specs.Limits.{workers_option};
 ghost use Rattle.asm_run.specs.code.Hands.{TakesHand, parts_of};
 ghost use Rattle.asm_run.specs.code.Rounds.{Holds, IsRound, outs_of, least_path, least_of_all, new_pieces, count_instances};
 
@@ -110,7 +110,7 @@ pub(crate) struct Cutting {
     pub cut: usize,
     /// In `rounds` rounds pieces are opened.
     pub rounds: u32,
-    pub ghost in_range: { (0 < workers) × (workers ≤ WORKERS.most) × (0 < cut) },
+    pub ghost in_range: { (0 < workers) × (workers ≤ workers_option.bounds.most) × (0 < cut) },
 }
 
 /// What stays the same over the rounds of a region.

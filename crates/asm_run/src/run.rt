@@ -1,10 +1,6 @@
 //! The run of a specification, from the bytes of its text to the bytes of its trace.
-ghost use Rattle.std.specs.Prelude.{◌≡◌, ◌↔◌, ◌<◌, false, length, IsTrue, IfOk, IfErr, Err};
-ghost use Rattle.asm_syntax.specs.declared.error.LexError.TheVariants.{TooLong};
-ghost use Rattle.asm_syntax.specs.code.Lexing.{HasFirstToken};
-ghost use Rattle.asm_reader.specs.declared.error.ReadError.TheVariants.{Lex};
-ghost use Rattle.asm_run.specs.Headline.{IsDone, Explains};
-ghost use Rattle.asm_run.specs.declared.error.RunError.TheVariants.{Read, Memory, Write};
+ghost use Rattle.std.specs.Prelude.{◌≡◌, false};
+ghost use Rattle.asm_run.specs.Headline.{Runs};
 
 use crate::end::End;
 use crate::error::RunError;
@@ -37,17 +33,7 @@ pub fn run<R: Threads + Sync, S: Sink>(
     out: &mut S,
 ) -> Result<End, RunError>
     requires { S.has_failed out.old ≡ false }
-    // The bytes grew by the trace of the book's run, and by nothing else.
-    ensures done { IfOk result (IsDone spec.now script.now limits.now (S.bytes out.old) (S.bytes out.new)) }
-    // What a refusal says of the text, of the script, of the limits, and of what was written. Those
-    // of texts and limits exclude one another, and a run (`laws`).
-    ensures refused { IfErr result (Explains spec.now script.now limits.now (S.bytes out.old) (S.bytes out.new)) }
-    // A text that is too long is refused as that, whatever memory there is.
-    ensures too_long { 1_048_576 < length spec.now → result ≡ Err (Read (Lex TooLong)) }
-    // Memory is asked for only if the text has a first token, and not before it.
-    ensures memory { IfErr result (λ e. e ≡ Memory → HasFirstToken spec.now) }
-    // The sink failed exactly if that is the result.
-    ensures failed { IsTrue (S.has_failed out.new) ↔ (result ≡ Err Write) }
+    ensures { Runs spec.now script.now limits.now (S.bytes out.old) (S.bytes out.new) (S.has_failed out.new) result }
 {
     run_gated(rt, alloc, &NoGate, spec, script, limits, out)
 }
@@ -64,17 +50,7 @@ pub fn run_gated<R: Threads + Sync, G: Gate + Sync, S: Sink>(
     out: &mut S,
 ) -> Result<End, RunError>
     requires { S.has_failed out.old ≡ false }
-    // The bytes grew by the trace of the book's run, and by nothing else.
-    ensures done { IfOk result (IsDone spec.now script.now limits.now (S.bytes out.old) (S.bytes out.new)) }
-    // What a refusal says of the text, of the script, of the limits, and of what was written. Those
-    // of texts and limits exclude one another, and a run (`laws`).
-    ensures refused { IfErr result (Explains spec.now script.now limits.now (S.bytes out.old) (S.bytes out.new)) }
-    // A text that is too long is refused as that, whatever memory there is.
-    ensures too_long { 1_048_576 < length spec.now → result ≡ Err (Read (Lex TooLong)) }
-    // Memory is asked for only if the text has a first token, and not before it.
-    ensures memory { IfErr result (λ e. e ≡ Memory → HasFirstToken spec.now) }
-    // The sink failed exactly if that is the result.
-    ensures failed { IsTrue (S.has_failed out.new) ↔ (result ≡ Err Write) }
+    ensures { Runs spec.now script.now limits.now (S.bytes out.old) (S.bytes out.new) (S.has_failed out.new) result }
 {
     let tree = read(alloc, spec)?;
     let checked = check(alloc, tree)?;

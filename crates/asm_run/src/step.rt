@@ -41,9 +41,7 @@ fn form_main<'a, R: Threads + Sync, G: Gate + Sync, P: Picks + Sync>(
         IfErr result (IsStoppedAt o forming.new.path.items) }
 {
     resolving_laws();
-    forming.set.clear();
-    forming.instances = 0;
-    forming.path.clear();
+    forming.clear();
     let signature = resolved.checked.signature();
     let nothing = Summary::new(alloc, signature.count());
     let view = View::new(signature, state, &nothing);

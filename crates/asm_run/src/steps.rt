@@ -3,7 +3,7 @@ ghost use Rattle.std.specs.Prelude.{◌≡◌, false};
 ghost use Rattle.asm_syntax.specs.code.Views.{spec_of};
 ghost use Rattle.asm_run.specs.Headline.{book_run};
 ghost use Rattle.asm_run.specs.code.Machine.{HasMainRule};
-ghost use Rattle.asm_run.specs.code.RunSoFar.{Runs};
+ghost use Rattle.asm_run.specs.code.RunSoFar.{RunsSteps};
 ghost use Rattle.asm_run.specs.Written.{names_in, locations_in};
 
 use crate::end::End;
@@ -19,7 +19,6 @@ use asm_meaning::{Choices, Forming};
 use asm_pool::Gate;
 use asm_reader::Picks;
 use asm_state::state::State;
-use asm_updates::summary::Summary;
 use std::alloc::Global;
 use std::thread::Threads;
 
@@ -35,17 +34,12 @@ pub fn run_steps<R: Threads + Sync, G: Gate + Sync, S: Sink, P: Picks + Sync>(
     requires open { S.has_failed out.old ≡ false }
     requires main { HasMainRule resolved.now }
     ensures { let s = spec_of resolved.now.checked.now.spec in
-        Runs (names_in s) (locations_in s) (S.bytes out.old) (S.bytes out.new) (S.has_failed out.new) (book_run s resolved.now.turns (P.script script.now) steps) result }
+        RunsSteps (names_in s) (locations_in s) (S.bytes out.old) (S.bytes out.new) (S.has_failed out.new) (book_run s resolved.now.turns (P.script script.now) steps) result }
 {
     let checked = resolved.checked;
     let signature = checked.signature();
     let mut state = State::initial(alloc, signature)?;
-    let mut forming = Forming {
-        set: Summary::new(alloc, signature.count()),
-        instances: 0,
-        path: Vec::new(alloc),
-        spare: Vec::new(alloc),
-    };
+    let mut forming = Forming::new(alloc, signature);
     let mut text = Vec::new(alloc);
     let mut texts = LocationTexts::new(alloc);
     for done in 0..steps {

@@ -1,5 +1,5 @@
 //! Runs of specifications, from bytes to bytes.
-use asm_limits::run_limits::Limits;
+use asm_limits::run_limits::{DEFAULTS, Limits};
 
 mod beginnings;
 mod refusals;
@@ -9,8 +9,5 @@ mod writers;
 
 const LIMITS: Limits = Limits {
     steps: 1,
-    turns: 1000,
-    workers: 1,
-    cut: 64,
-    rounds: 4,
+    ..DEFAULTS
 };

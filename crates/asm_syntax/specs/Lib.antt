@@ -1,4 +1,5 @@
 pub mod Tree
+pub mod CallsAndUses
 pub mod SourceTree
 pub mod PlainTree
 pub mod Spellings

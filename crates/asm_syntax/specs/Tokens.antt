@@ -10,9 +10,9 @@ use Rattle.asm_syntax.specs.declared.error.LexError.{LexError}
 use Rattle.asm_syntax.specs.declared.error.LexError.TheVariants.{TooLong, BadByte, OpenComment, BadNumber}
 use Rattle.asm_syntax.specs.Spellings.{symbol_text, word_text}
 
--- how many bytes a text has at most
+-- how many bytes a text has at most, and a script
 abbrev pub max_length : ℕ
-max_length = 1048576
+max_length = 1_048_576
 
 -- the greatest number of a text
 abbrev pub max_number : ℕ

@@ -4,7 +4,7 @@ ghost use Rattle.std.specs.Prelude.{◌≡◌, ◌<◌, List, length, Err, IfOk,
 ghost use Rattle.asm_syntax.specs.declared.error.LexError.TheVariants.{TooLong};
 ghost use Rattle.asm_syntax.specs.declared.input_error.InputError.TheVariants.{Memory, Named};
 ghost use Rattle.asm_syntax.specs.declared.token.Token.{Token};
-ghost use Rattle.asm_syntax.specs.Tokens.{AreTokens};
+ghost use Rattle.asm_syntax.specs.Tokens.{AreTokens, max_length};
 ghost use Rattle.asm_syntax.specs.code.Lexing.{Explains, HasFirstToken};
 
 use crate::error::LexError;
@@ -13,14 +13,14 @@ use crate::input_error::InputError;
 use crate::token::Token;
 use std::alloc::Global;
 
-/// How many bytes a text may have.
-const MAX_LENGTH: usize = 1_048_576;
+/// How many bytes a text may have, and a script.
+pub const MAX_LENGTH: usize = 1_048_576;
 
 /// The tokens of the text, or its first fault.
 pub fn tokens(alloc: Global, text: &[u8]) -> Result<Vec<Token>, InputError<LexError>>
     ensures found { IfOk result (λ tokens. AreTokens text.now tokens.items) }
     ensures refused { IfErr result (Explains text.now) }
-    ensures too_long { 1_048_576 < length text.now → result ≡ Err (Named TooLong) }
+    ensures too_long { max_length < length text.now → result ≡ Err (Named TooLong) }
     // Memory is asked for at a first token, and nowhere before.
     ensures memory { IfErr result (λ e. e ≡ Memory → HasFirstToken text.now) }
     // A text that has tokens is refused only if memory runs out.

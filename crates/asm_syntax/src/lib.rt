@@ -23,5 +23,5 @@ pub use laws::{
     no_tokens_beside_a_fault, numbers_in_range, one_fault, one_kind, one_list_of_tokens, one_token,
     tokens_in_order, tokens_or_a_fault,
 };
-pub use lexer::tokens;
+pub use lexer::{MAX_LENGTH, tokens};
 pub use token::{Keyword, Kind, Symbol, Token};

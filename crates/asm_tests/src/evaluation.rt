@@ -12,8 +12,7 @@ ghost use Rattle.asm_check.specs.Shapes.{shape_of};
 use asm_by_code::by_code::outcome_by_code;
 use asm_check::Checked;
 use asm_eval::evaluation::Evaluation;
-use asm_meaning::new_forming::{new_forming, outcome_of};
-use asm_meaning::{Choices, Outcome, View};
+use asm_meaning::{Choices, Forming, Outcome, View};
 use asm_reader::Picks;
 use std::alloc::{AllocError, Global};
 
@@ -28,12 +27,12 @@ fn outcome_at<'a, P: Picks>(
 ) -> Result<Outcome, AllocError>
     requires { view.now.signature.now ≡ shape_of (spec_of checked.now.spec) }
 {
-    let mut forming = new_forming(alloc, view.signature, path)?;
+    let mut forming = Forming::at(alloc, view.signature, path)?;
     let evaluation = Evaluation {
         view,
         choices,
         turns,
     };
     let formed = outcome_by_code(alloc, checked, &evaluation, &mut forming)?;
-    outcome_of(forming, formed)
+    forming.into_outcome(formed)
 }

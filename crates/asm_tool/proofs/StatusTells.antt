@@ -1,5 +1,5 @@
 -- Free. What a status says of the texts, from what the result of the run says.
-use Rattle.std.proofs.Common.{◌≡◌, ◌≤◌, ◌<◌, ◌⊎◌, ◌∙◌, ap, ℕ, List, [], Option, None, Some, codes, inl, inr, sym, subst, arith}
+use Rattle.std.proofs.Common.{◌≡◌, ◌+◌, ◌≤◌, ◌<◌, ◌⊎◌, ◌∙◌, ap, ℕ, List, [], Option, None, Some, codes, inl, inr, sym, subst, arith}
 use Rattle.std.specs.Prelude.{◌≢◌, Err, IfSome, Ok, length, option_map, pos, take, unwrap_or}
 use Rattle.std.proofs.lemmas.Bool.{cases_lt}
 use Rattle.std.proofs.lemmas.List.{length-take-le, take_all}
@@ -8,6 +8,7 @@ use Rattle.std.proofs.lemmas.Int.{ints}
 use Rattle.clap.specs.Simple.{matches_of}
 use Rattle.clap.specs.Walk.{Row, Text, first_of}
 use Rattle.asm_syntax.specs.SourceTree.{Spec}
+use Rattle.asm_syntax.specs.Tokens.{max_length}
 use Rattle.asm_syntax.specs.declared.error.LexError.TheVariants.{TooLong}
 use Rattle.asm_reader.specs.Refusals.{IsRefusal}
 use Rattle.asm_reader.specs.Specification.{IsSpecification}
@@ -71,12 +72,12 @@ one_number rows name n m a b =
 -- ---- of bytes that are read no further than they can matter
 
 abbrev pub most_bytes : ℕ
-most_bytes = 1_048_577
+most_bytes = max_length + 1
 
-pub whole : (bytes : List ℕ) → length (take most_bytes bytes) ≤ 1_048_576 → take most_bytes bytes ≡ bytes
-whole bytes short = by_length (cases_lt 1_048_577 (length bytes))
+pub whole : (bytes : List ℕ) → length (take most_bytes bytes) ≤ max_length → take most_bytes bytes ≡ bytes
+whole bytes short = by_length (cases_lt most_bytes (length bytes))
   where
-    by_length : (1_048_577 < length bytes) ⊎ (length bytes ≤ 1_048_577) → take most_bytes bytes ≡ bytes
+    by_length : (most_bytes < length bytes) ⊎ (length bytes ≤ most_bytes) → take most_bytes bytes ≡ bytes
     by_length (inl long) = absurd (omega (arith, short, long, length-take-le most_bytes bytes (omega (arith, long))))
     by_length (inr low) = take_all most_bytes bytes low
 
@@ -84,16 +85,16 @@ pub whole_text : (bytes : List ℕ) (s : Spec) → IsSpecification (take most_by
 whole_text bytes s spelled = whole bytes spelled.1.0
 
 refused_front : (bytes : List ℕ) (e : ReadError) → IsRefusal (take most_bytes bytes) e → (script_text : List ℕ) → IsRefused bytes script_text
-refused_front bytes e refusal script_text = by_length (cases_lt 1_048_576 (length bytes))
+refused_front bytes e refusal script_text = by_length (cases_lt max_length (length bytes))
   where
-    by_length : (1_048_576 < length bytes) ⊎ (length bytes ≤ 1_048_576) → IsRefused bytes script_text
+    by_length : (max_length < length bytes) ⊎ (length bytes ≤ max_length) → IsRefused bytes script_text
     by_length (inl long) = run.unread (Lex TooLong) long
     by_length (inr low) = run.unread e (subst (λ (x : List ℕ). IsRefusal x e) (take_all most_bytes bytes (omega (arith, low))) refusal)
 
 refused_script : (text bytes : List ℕ) (s : Spec) (e : ScriptError) → IsAccepted text s → IsScriptRefusal (take most_bytes bytes) e → IsRefused text bytes
-refused_script text bytes s e accepted refusal = by_length (cases_lt 1_048_576 (length bytes))
+refused_script text bytes s e accepted refusal = by_length (cases_lt max_length (length bytes))
   where
-    by_length : (1_048_576 < length bytes) ⊎ (length bytes ≤ 1_048_576) → IsRefused text bytes
+    by_length : (max_length < length bytes) ⊎ (length bytes ≤ max_length) → IsRefused text bytes
     by_length (inl long) = run.unscripted s script_error.TooLong accepted long
     by_length (inr low) = run.unscripted s e accepted (subst (λ (x : List ℕ). IsScriptRefusal x e) (take_all most_bytes bytes (omega (arith, low))) refusal)
 
@@ -169,7 +170,7 @@ module _ (P : List ℕ → List ℕ → Limits → Type 0)
       → P text script_text s.limits → OfWords words contents input P
   holds_of_words words contents input s text script_text said read read_script holds =
       let rows = matches_of command words in
-      of_known rows s.limits said.steps said.turns
+      of_known rows s.limits said.limits.0 said.limits.1.0
       (bytes_of contents input (first_of (codes "spec") rows)) (bytes_of contents (Some []) (first_of (codes "script") rows)) text script_text
       (subst (λ (o : Option Text). IsFront (bytes_of contents input o) most_bytes text) said.spec read)
       (subst (λ (o : Option Text). IsFront (bytes_of contents (Some []) o) most_bytes script_text) said.script read_script) holds

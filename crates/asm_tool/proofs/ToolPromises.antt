@@ -8,6 +8,7 @@ use Rattle.clap.specs.Simple.{matches_of}
 use Rattle.clap.specs.Walk.{Row, Text, first_of}
 use Rattle.clap.specs.declared.error.Error.{Error}
 use Rattle.asm_syntax.specs.SourceTree.{Spec}
+use Rattle.asm_syntax.specs.Tokens.{max_length}
 use Rattle.asm_syntax.specs.declared.error.LexError.TheVariants.{TooLong, BadByte, OpenComment, BadNumber}
 use Rattle.asm_reader.specs.Refusals.{IsRefusal}
 use Rattle.asm_reader.specs.ScriptText.{IsScript, IsScriptRefusal}
@@ -127,11 +128,11 @@ module _ (text script_text : List ℕ) (limits : Limits) (P : Spec → Run → T
   }
 
 read_front : (bytes : List ℕ) (e : ReadError) → IsRefusal (take most_bytes bytes) e → IsRefusal bytes e
-read_front bytes (Lex TooLong) h = by_length (cases_lt 1_048_576 (length bytes))
+read_front bytes (Lex TooLong) h = by_length (cases_lt max_length (length bytes))
   where
-    by_length : (1_048_576 < length bytes) ⊎ (length bytes ≤ 1_048_576) → 1_048_576 < length bytes
+    by_length : (max_length < length bytes) ⊎ (length bytes ≤ max_length) → max_length < length bytes
     by_length (inl long) = long
-    by_length (inr low) = subst (λ (x : List ℕ). 1_048_576 < length x) (take_all most_bytes bytes (omega (arith, low))) h
+    by_length (inr low) = subst (λ (x : List ℕ). max_length < length x) (take_all most_bytes bytes (omega (arith, low))) h
 read_front bytes (Lex (BadByte at)) h = subst (λ (x : List ℕ). IsRefusal x (Lex (BadByte at))) (whole bytes h.0) h
 read_front bytes (Lex (OpenComment at)) h = subst (λ (x : List ℕ). IsRefusal x (Lex (OpenComment at))) (whole bytes h.0) h
 read_front bytes (Lex (BadNumber at)) h = subst (λ (x : List ℕ). IsRefusal x (Lex (BadNumber at))) (whole bytes h.0) h
@@ -140,11 +141,11 @@ read_front bytes UnexpectedEnd h = subst (λ (x : List ℕ). IsRefusal x Unexpec
 read_front bytes (TooDeep at) h = subst (λ (x : List ℕ). IsRefusal x (TooDeep at)) (whole bytes h.1.0) h
 
 script_front : (bytes : List ℕ) (e : ScriptError) → IsScriptRefusal (take most_bytes bytes) e → IsScriptRefusal bytes e
-script_front bytes script_error.TooLong h = by_length (cases_lt 1_048_576 (length bytes))
+script_front bytes script_error.TooLong h = by_length (cases_lt max_length (length bytes))
   where
-    by_length : (1_048_576 < length bytes) ⊎ (length bytes ≤ 1_048_576) → 1_048_576 < length bytes
+    by_length : (max_length < length bytes) ⊎ (length bytes ≤ max_length) → max_length < length bytes
     by_length (inl long) = long
-    by_length (inr low) = subst (λ (x : List ℕ). 1_048_576 < length x) (take_all most_bytes bytes (omega (arith, low))) h
+    by_length (inr low) = subst (λ (x : List ℕ). max_length < length x) (take_all most_bytes bytes (omega (arith, low))) h
 script_front bytes (script_error.BadLine n) h = subst (λ (x : List ℕ). IsScriptRefusal x (script_error.BadLine n)) (whole bytes h.0) h
 script_front bytes (script_error.Repeated n) h = subst (λ (x : List ℕ). IsScriptRefusal x (script_error.Repeated n)) (whole bytes h.0) h
 

@@ -10,8 +10,8 @@ use Rattle.clap.specs.Walk.{Row, Text, first_of, rows_of}
 use Rattle.clap.specs.declared.error.Error.{Error}
 use Rattle.clap.specs.declared.error.kind.ErrorKind.TheVariants.{OutOfMemory}
 use Rattle.clap.specs.declared.parser.matches.ArgMatches.{ArgMatches}
-use Rattle.asm_limits.specs.declared.run_limits.TheConstants.{STEPS, TURNS, WORKERS, CUT, ROUNDS}
-use Rattle.asm_arguments.specs.Numbers.{HasNumber, IsNumber}
+use Rattle.asm_limits.specs.Limits.{limit_options, limits_given}
+use Rattle.asm_arguments.specs.Numbers.{AreNumbers, HaveNumbers}
 use Rattle.asm_tool.specs.CommandLine.{command, refusals}
 use Rattle.asm_tool.specs.declared.settings.Settings.{Settings}
 use Rattle.asm_tool.specs.declared.settings.WordFault.{WordFault}
@@ -20,11 +20,7 @@ use Rattle.asm_tool.specs.declared.settings.WordFault.TheVariants.{Memory, Words
 -- what a parse of the words finds
 pub record AreParsed (words : List Text) (matches : ArgMatches) : Type 0 where
   pub rows : rows_of (found_of matches) ≡ matches_of command words
-  pub steps : HasNumber (found_of matches) (codes "steps") STEPS
-  pub turns : HasNumber (found_of matches) (codes "turns") TURNS
-  pub workers : HasNumber (found_of matches) (codes "workers") WORKERS
-  pub cut : HasNumber (found_of matches) (codes "cut") CUT
-  pub rounds : HasNumber (found_of matches) (codes "rounds") ROUNDS
+  pub numbers : HaveNumbers (found_of matches) limit_options
 
 -- ---- settings
 
@@ -32,11 +28,7 @@ module _ (rows : List Row) where
   pub record AreRead (settings : Settings) : Type 0 where
     pub spec : option_map (λ name. name.now) settings.spec ≡ first_of (codes "spec") rows
     pub script : option_map (λ name. name.now) settings.script ≡ first_of (codes "script") rows
-    pub steps : IsNumber rows (codes "steps") settings.limits.steps
-    pub turns : IsNumber rows (codes "turns") settings.limits.turns
-    pub workers : IsNumber rows (codes "workers") settings.limits.workers
-    pub cut : IsNumber rows (codes "cut") settings.limits.cut
-    pub rounds : IsNumber rows (codes "rounds") settings.limits.rounds
+    pub limits : AreNumbers rows (limits_given settings.limits)
 
 abbrev pub AreSaid : List Text → Settings → Type 0
 AreSaid words settings = AreRead (matches_of command words) settings

@@ -1,17 +1,16 @@
 //! The words that the program is called with.
-ghost use Rattle.std.specs.Prelude.{◌≡◌, [], Some, map, codes, pos, IsTrue, IfOk, IfErr};
-ghost use Rattle.std.specs.Str.Parse.{signed_digits_value};
-ghost use Rattle.clap.specs.Words.{app_of, first_value, found_of, rule_of};
+ghost use Rattle.std.specs.Prelude.{◌≡◌, [], map, IsTrue, IfOk, IfErr};
+ghost use Rattle.clap.specs.Words.{app_of, rule_of};
 ghost use Rattle.asm_limits.specs.Limits.{are_in_range};
 ghost use Rattle.asm_tool.specs.CommandLine as line;
 ghost use Rattle.asm_tool.specs.CommandLine.{refusals};
 ghost use Rattle.asm_arguments.specs.Arguments as arguments;
-ghost use Rattle.asm_arguments.specs.Numbers.{HasNumber};
 ghost use Rattle.asm_tool.specs.WordsSaid.{AreParsed, AreSaid, Explains};
 
 use crate::help;
 use crate::settings::{Settings, WordFault};
-use asm_limits::run_limits::{Bounds, CUT, Limits, ROUNDS, STEPS, TURNS, WORKERS};
+use asm_arguments::numbers::{number, number_of, with_numbers};
+use asm_limits::run_limits::{CUT, Limits, ROUNDS, STEPS, TURNS, WORKERS, options_with_defaults};
 use clap::{Arg, ArgAction, ArgMatches, Command};
 use std::alloc::{AllocError, Global};
 use std::convert::AsStr;
@@ -25,11 +24,11 @@ pub fn settings<'w, S: AsStr>(alloc: Global, words: &'w [S]) -> Result<Settings<
 {
     let given = given(alloc, words)?;
     let limits = Limits {
-        steps: number_of(&given, "steps"),
-        turns: number_of(&given, "turns"),
-        workers: number_of(&given, "workers"),
-        cut: number_of(&given, "cut"),
-        rounds: number_of(&given, "rounds"),
+        steps: number_of(&given, STEPS),
+        turns: number_of(&given, TURNS),
+        workers: number_of(&given, WORKERS),
+        cut: number_of(&given, CUT),
+        rounds: number_of(&given, ROUNDS),
     };
     let spec = given.get_str("spec");
     let script = given.get_str("script");
@@ -53,18 +52,15 @@ fn given<'w, S: AsStr>(alloc: Global, words: &'w [S]) -> Result<ArgMatches<'w>, 
 fn command<'w>(alloc: Global) -> Result<Command<'w>, AllocError>
     ensures { IfOk result (λ c. app_of c ≡ line.command) }
 {
-    Command::new(alloc, "asm")
+    let command = Command::new(alloc, "asm")
         .version(help::VERSION)
         .about(help::ABOUT)
         .after_help(help::AFTER)
         .no_binary_name(true)
         .arg(file(alloc, "spec", "SPEC", help::SPEC))?
-        .arg(number(alloc, "steps", STEPS, help::STEPS).required(true))?
-        .arg(file(alloc, "script", "FILE", help::SCRIPT).long("script"))?
-        .arg(number(alloc, "turns", TURNS, help::TURNS).default_value("1000"))?
-        .arg(number(alloc, "workers", WORKERS, help::WORKERS).default_value("1"))?
-        .arg(number(alloc, "cut", CUT, help::CUT).default_value("64"))?
-        .arg(number(alloc, "rounds", ROUNDS, help::ROUNDS).default_value("4"))
+        .arg(number(alloc, STEPS))?
+        .arg(file(alloc, "script", "FILE", help::SCRIPT).long("script"))?;
+    with_numbers(alloc, command, &options_with_defaults())
 }
 
 /// A file's name, as a word of its own.
@@ -75,26 +71,4 @@ fn file<'w>(alloc: Global, name: &'w str, shown: &'w str, help: &'w str) -> Arg<
         .value_name(shown)
         .help(help)
         .action(ArgAction::Set)
-}
-
-/// The word `--name`, with a number within these bounds.
-fn number<'w>(alloc: Global, name: &'w str, bounds: Bounds, help: &'w str) -> Arg<'w>
-    ensures { rule_of result ≡ arguments.number bounds name.entry.now }
-{
-    Arg::new(alloc, name)
-        .long(name)
-        .value_name("N")
-        .help(help)
-        .action(ArgAction::Set)
-        .value_parser(clap::value_parser!(u32).range(
-            i64::from(bounds.least)..=i64::from(bounds.most),
-        ))
-}
-
-/// The number of an option that has one.
-fn number_of(given: &ArgMatches<'_>, name: &str) -> u32
-    requires { HasNumber (found_of given.now) name.now (record { least = 0; most = 4_294_967_295 }) }
-    ensures { (text : _) → first_value (found_of given.now) name.now ≡ Some text → signed_digits_value 10 text ≡ pos result }
-{
-    given.get_one::<u32>(name).unwrap()
 }

@@ -8,18 +8,7 @@ pub const ABOUT: &str =
 
 pub const SPEC: &str = "The file that has the specification [without it: standard input]";
 
-pub const STEPS: &str = "Make at most N steps: 0 to 1000000";
-
 pub const SCRIPT: &str = "Read the choices from this file [without it: none]";
-
-pub const TURNS: &str =
-    "End the run if an iterate or while would go on after N turns: 1 to 1000000";
-
-pub const WORKERS: &str = "Share each step among at most N workers: 1 to 32";
-
-pub const CUT: &str = "Put at most N elements of a forall into one piece of work: 1 to 4096";
-
-pub const ROUNDS: &str = "Cut work into pieces at most N times: 0 to 64";
 
 /// What is below the options.
 pub const AFTER: &str = "\

@@ -18,6 +18,7 @@ use asm_run::error::RunError;
 use asm_run::laws::results_tell;
 use asm_run::run::run;
 use asm_run::sink::Sink;
+use asm_syntax::MAX_LENGTH;
 use std::alloc::Global;
 use std::convert::AsStr;
 use std::io::Read;
@@ -25,7 +26,7 @@ use std::thread::Threads;
 
 /// One more than the bytes of the longest text, and of the longest script: reading goes no further,
 /// and what is of this length is too long.
-const MAX_BYTES_READ: u64 = 1_048_577;
+const MAX_BYTES_READ: u64 = MAX_LENGTH as u64 + 1;
 
 /// Runs the specification of the file that the words name, or of the input if they name none, and
 /// writes its trace to `out` and the line of a fault to `err`. The words are those after the

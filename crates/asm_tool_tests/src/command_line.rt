@@ -1,5 +1,5 @@
 //! The settings that words give, and words that can't be had.
-use asm_limits::run_limits::Limits;
+use asm_limits::run_limits::{DEFAULTS, Limits};
 use asm_tool::command_line::settings;
 use asm_tool::fault::Fault;
 use asm_tool::output::Through;
@@ -12,10 +12,7 @@ fn what_is_left_out_has_a_default(rt: HostRuntime) -> Result<(), WordFault> {
     let words = ["--steps", "7"];
     let limits = Limits {
         steps: 7,
-        turns: 1000,
-        workers: 1,
-        cut: 64,
-        rounds: 4,
+        ..DEFAULTS
     };
     let wanted = Settings {
         spec: None,

@@ -12,7 +12,7 @@ ghost use Rattle.asm_state.specs.code.Contents.{IsStateOf};
 ghost use Rattle.asm_state.specs.Signature.{Shape, IsSound, count_of, location_at, state_of};
 ghost use Rattle.asm_state.specs.Updates.{UpdateSet, IsConsistent, IsFirstFault, none, one, together, merge, widen, later_range, overwritten, fire, is_proper};
 ghost use Rattle.asm_state.specs.declared.value.Value.TheVariants.{Undef};
-ghost use Rattle.asm_updates.specs.code.SummaryRanges.{summary_range, first_range, range, AreRanges};
+ghost use Rattle.asm_updates.specs.code.SummaryRanges.{summary_range, first_range, range, AreRanges, Changes};
 ghost use Rattle.asm_updates.specs.code.Faults.{fault_of};
 ghost use Rattle.asm_updates.specs.code.IndexedRanges.{HasOneValue};
 ghost use Rattle.asm_updates.specs.code.Stands.{Stands, MarksFaults};
@@ -131,15 +131,13 @@ impl Summary {
     pub fn add(&mut self, n: usize, low: Word, high: Word) -> Result<(), AllocError>
         requires in_range { n < self.old.count }
         requires ordered { code_of low ≤ code_of high }
-        ensures count { self.new.count ≡ self.old.count }
-        ensures entries { OnOk result ((k : ℕ) → summary_range self.new k
-            ≡ (if k == n then widen (summary_range self.old n) (Some (range (low, high))) else summary_range self.old k)) }
+        ensures changes { Changes self.old self.new
+            (λ k. if k == n then widen (summary_range self.old n) (Some (range (low, high))) else summary_range self.old k) result }
         ensures bounds { OnOk result ((shape : Shape) (U : UpdateSet) → Stands shape self.old U → let l = location_at shape n in
             Stands shape self.new (together U (together (one l low) (one l high)))) }
         ensures value { OnOk result ((shape : Shape) (U : UpdateSet) → low ≡ high → Stands shape self.old U →
             Stands shape self.new (together U (one (location_at shape n) low))) }
         ensures marks { OnOk result ((shape : Shape) → MarksFaults shape self.new) }
-        ensures err { OnErr result (self.new ≡ self.old) }
     {
         self.ranges.reserve(1)?;
         self.ranges.widen(n, (low, high));
@@ -151,12 +149,10 @@ impl Summary {
     /// this is a second value.
     pub fn add_proper(&mut self, n: usize, value: Word) -> Result<(), AllocError>
         requires { n < self.old.count }
-        ensures count { self.new.count ≡ self.old.count }
-        ensures entries { OnOk result ((k : ℕ) → summary_range self.new k
-            ≡ (if k == n then widen (summary_range self.old n) (Some (range (value, value))) else summary_range self.old k)) }
+        ensures changes { Changes self.old self.new
+            (λ k. if k == n then widen (summary_range self.old n) (Some (range (value, value))) else summary_range self.old k) result }
         ensures value { OnOk result ((shape : Shape) (U : UpdateSet) → IsTrue (is_proper (location_at shape n)) → Stands shape self.old U →
             Stands shape self.new (together U (one (location_at shape n) value))) }
-        ensures err { OnErr result (self.new ≡ self.old) }
     {
         self.ranges.reserve(1)?;
         let has_two = self.ranges.widen_by(n, value);
@@ -168,11 +164,9 @@ impl Summary {
     /// Adds what another set names.
     pub fn union(&mut self, other: &Summary) -> Result<(), AllocError>
         requires { other.now.count ≡ self.old.count }
-        ensures count { self.new.count ≡ self.old.count }
-        ensures entries { OnOk result ((k : ℕ) → summary_range self.new k ≡ widen (summary_range self.old k) (summary_range other.now k)) }
+        ensures changes { Changes self.old self.new (λ k. widen (summary_range self.old k) (summary_range other.now k)) result }
         ensures union { OnOk result ((shape : Shape) (U V : UpdateSet) → Stands shape self.old U → Stands shape other.now V →
             Stands shape self.new (together U V)) }
-        ensures err { OnErr result (self.new ≡ self.old) }
     {
         let marked = self.is_marked_with(other);
         self.ranges.reserve(other.len())?;
@@ -185,11 +179,9 @@ impl Summary {
     /// Goes on with a later set: the turbo merge.
     pub fn merge_with(&mut self, later: &Summary) -> Result<(), AllocError>
         requires { later.now.count ≡ self.old.count }
-        ensures count { self.new.count ≡ self.old.count }
-        ensures entries { OnOk result ((k : ℕ) → summary_range self.new k ≡ later_range (summary_range self.old k) (summary_range later.now k)) }
+        ensures changes { Changes self.old self.new (λ k. later_range (summary_range self.old k) (summary_range later.now k)) result }
         ensures merge { OnOk result ((shape : Shape) (U V : UpdateSet) → Stands shape self.old U → Stands shape later.now V →
             Stands shape self.new (merge U V)) }
-        ensures err { OnErr result (self.new ≡ self.old) }
     {
         let marked = self.is_marked_with(later);
         self.ranges.reserve(later.len())?;
@@ -201,12 +193,10 @@ impl Summary {
     /// Goes on with a later set that has one update of a proper location alone.
     pub fn merge_proper(&mut self, n: usize, value: Word) -> Result<(), AllocError>
         requires { n < self.old.count }
-        ensures count { self.new.count ≡ self.old.count }
-        ensures entries { OnOk result ((k : ℕ) → summary_range self.new k
-            ≡ (if k == n then Some (range (value, value)) else summary_range self.old k)) }
+        ensures changes { Changes self.old self.new
+            (λ k. if k == n then Some (range (value, value)) else summary_range self.old k) result }
         ensures merge { OnOk result ((shape : Shape) (U : UpdateSet) → IsTrue (is_proper (location_at shape n)) → Stands shape self.old U →
             Stands shape self.new (merge U (one (location_at shape n) value))) }
-        ensures err { OnErr result (self.new ≡ self.old) }
     {
         self.ranges.reserve(1)?;
         self.ranges.insert(n, (value, value));

@@ -5,6 +5,8 @@ use Rattle.std.proofs.lemmas.Bool.{false≢true}
 use Rattle.std.proofs.lemmas.List.Elements.{Contains-append_left, Contains-append_right}
 use Rattle.asm_state.proofs.Lists.{Contains-cons_cases, Contains-first, Contains-later, Contains-map, Contains-none}
 use Rattle.asm_syntax.specs.SourceTree.{Name, Term, Constant, Named, Chain, Not, Negative, Exists, Every, Result, Terms, no_terms, term_then, Links, no_links, link_then, Rule, Skip, Assign, Call, Par, Seq, If, Let, Forall, Choose, Iterate, While, SetResult, Rules, no_rules, rule_then, Branch, left_out, written, Spec}
+use Rattle.asm_syntax.specs.PlainTree.{plain_term, plain_terms, plain_links, plain_rule, plain_rules, plain_branch}
+use Rattle.asm_syntax.specs.CallsAndUses.{CallsOnly, EachCallsOnly, UsesOnly, EachUsesOnly, LinksUseOnly}
 use Rattle.asm_check.specs.declared.cycles.step_faults.TheConstants.{MAX_RANK}
 use Rattle.asm_check.specs.Names as names
 use Rattle.asm_check.specs.Names.{Text, Meaning, NamedRule, Derived, Role, InTerm, AsRule, AsAnswering, AsResult, Use, use_of, term_count, rule_role, is_known, is_among, text_of, declared, uses, uses_of_rule, uses_of_rules, uses_of_branch, uses_of_term, uses_of_terms, uses_of_links, uses_of_test, uses_of_target, rule_scope}
@@ -12,7 +14,7 @@ use Rattle.asm_check.specs.CallGraph.{called, used, is_call, is_use, calls_in, u
 use Rattle.asm_check.specs.Limits.{rule_rank, derived_rank}
 use Rattle.asm_check.specs.Faults.{IsWellFormed, IsCyclic, is_known_use, unknown, cyclic_rule, cyclic_derived, too_many, result_use, outside}
 use Rattle.asm_check.specs.Ranks as ranks
-use Rattle.asm_check.specs.Ranks.{IsCallable, CallsBelow, EachCallsBelow, BranchCallsBelow, UsesBelow, EachUsesBelow, LinksUseBelow, HasRanks}
+use Rattle.asm_check.specs.Ranks.{IsCallable, IsUsable, HasRanks}
 use Rattle.asm_check.specs.Laws.{RanksExist}
 use Rattle.asm_check.proofs.CycleLemmas.HeightsAreRanks.{AreRanks, heights_are_ranks}
 use Rattle.asm_check.proofs.NameLemmas.FirstOfName.{first_is, body_uses}
@@ -34,7 +36,7 @@ module _ (spec : Spec) (rank : Text → ℕ) (n : ℕ) where
   tail u us h v c = h v (Contains-later u us v c)
 
   mutual
-    calls_below : (R : Rule) (bound : List Text) → CallsAreBelow (uses_of_rule R bound) → CallsBelow spec rank n R
+    calls_below : (R : Rule) (bound : List Text) → CallsAreBelow (uses_of_rule R bound) → CallsOnly (IsCallable spec rank n) (plain_rule R)
     calls_below Skip bound h = tt
     calls_below (Assign f ts t) bound h = tt
     calls_below (Call to f ts) bound h =
@@ -57,17 +59,17 @@ module _ (spec : Spec) (rank : Text → ℕ) (n : ℕ) where
           branch_below Q bound (last_part (front ++ uses_of_rule P (x.text ∷ bound)) (uses_of_branch Q bound) h),
         )
     calls_below (Iterate P) bound h = calls_below P bound h
-    calls_below (While t P) bound h = calls_below P bound (last_part (uses_of_term t bound) (uses_of_rule P bound) h)
+    calls_below (While t P) bound h = (calls_below P bound (last_part (uses_of_term t bound) (uses_of_rule P bound) h), tt)
     calls_below (SetResult x t) bound h = tt
 
-    each_below : (Ps : Rules) (bound : List Text) → CallsAreBelow (uses_of_rules Ps bound) → EachCallsBelow spec rank n Ps
+    each_below : (Ps : Rules) (bound : List Text) → CallsAreBelow (uses_of_rules Ps bound) → EachCallsOnly (IsCallable spec rank n) (plain_rules Ps)
     each_below no_rules bound h = tt
     each_below (rule_then P Ps) bound h = (
       calls_below P bound (first_part (uses_of_rule P bound) (uses_of_rules Ps bound) h),
       each_below Ps bound (last_part (uses_of_rule P bound) (uses_of_rules Ps bound) h),
     )
 
-    branch_below : (Q : Branch) (bound : List Text) → CallsAreBelow (uses_of_branch Q bound) → BranchCallsBelow spec rank n Q
+    branch_below : (Q : Branch) (bound : List Text) → CallsAreBelow (uses_of_branch Q bound) → CallsOnly (IsCallable spec rank n) (plain_branch Q)
     branch_below left_out bound h = tt
     branch_below (written P) bound h = calls_below P bound h
 
@@ -87,7 +89,7 @@ module _ (spec : Spec) (rank : Text → ℕ) (n : ℕ) where
   tail_uses u us h v c = h v (Contains-later u us v c)
 
   mutual
-    uses_below : (t : Term) (bound : List Text) → UsesAreBelow (uses_of_term t bound) → UsesBelow spec rank n t bound
+    uses_below : (t : Term) (bound : List Text) → UsesAreBelow (uses_of_term t bound) → UsesOnly (IsUsable spec rank n) (plain_term t) bound
     uses_below (Constant v) bound h = tt
     uses_below (Named x ts) bound h = (
       λ free xs t is. h (use_of InTerm x (term_count ts) bound) (Contains-first _ (uses_of_terms ts bound)) (inl refl) free xs t is,
@@ -101,16 +103,16 @@ module _ (spec : Spec) (rank : Text → ℕ) (n : ℕ) where
     uses_below (Negative t) bound h = uses_below t bound h
     uses_below (Exists x over t) bound h = uses_below t (x.text ∷ bound) (tail_uses _ (uses_of_term t (x.text ∷ bound)) h)
     uses_below (Every x over t) bound h = uses_below t (x.text ∷ bound) (tail_uses _ (uses_of_term t (x.text ∷ bound)) h)
-    uses_below (Result x) bound h = λ free xs t is. h (use_of AsResult x 0 bound) (Contains-first _ []) (inr refl) free xs t is
+    uses_below (Result x) bound h = (λ free xs t is. h (use_of AsResult x 0 bound) (Contains-first _ []) (inr refl) free xs t is, tt)
 
-    each_uses : (ts : Terms) (bound : List Text) → UsesAreBelow (uses_of_terms ts bound) → EachUsesBelow spec rank n ts bound
+    each_uses : (ts : Terms) (bound : List Text) → UsesAreBelow (uses_of_terms ts bound) → EachUsesOnly (IsUsable spec rank n) (plain_terms ts) bound
     each_uses no_terms bound h = tt
     each_uses (term_then t ts) bound h = (
       uses_below t bound (front_uses (uses_of_term t bound) (uses_of_terms ts bound) h),
       each_uses ts bound (back_uses (uses_of_term t bound) (uses_of_terms ts bound) h),
     )
 
-    link_uses : (links : Links) (bound : List Text) → UsesAreBelow (uses_of_links links bound) → LinksUseBelow spec rank n links bound
+    link_uses : (links : Links) (bound : List Text) → UsesAreBelow (uses_of_links links bound) → LinksUseOnly (IsUsable spec rank n) (plain_links links) bound
     link_uses no_links bound h = tt
     link_uses (link_then o t links) bound h = (
       uses_below t bound (front_uses (uses_of_term t bound) (uses_of_links links bound) h),

@@ -65,8 +65,8 @@ get_of (y ∷ ys) x c =
 
 kind_of_number : (m : DeclaredAs) (number : ℕ) → cycle_number m ≡ Some number
     → (IsRule (Some (declared_as_view m)) × (12 ≡ number)) ⊎ (IsDerived (Some (declared_as_view m)) × (13 ≡ number))
-kind_of_number (code.Rule xs P) number e = inl (is_rule _ _, cc)
-kind_of_number (code.Derived xs t) number e = inr (is_derived _ _, cc)
+kind_of_number (code.Rule body) number e = inl (is_rule _ _, cc)
+kind_of_number (code.Derived body) number e = inr (is_derived _ _, cc)
 kind_of_number code.Predeclared number e = cc
 kind_of_number (code.Range first last) number e = cc
 kind_of_number (code.Enumeration k) number e = cc
@@ -89,8 +89,8 @@ derived_passes : (m : Option names.Meaning) → IsDerived m → derived_test m �
 derived_passes m (is_derived xs t) = refl
 
 number_of_rule : (m : DeclaredAs) → rule_test (Some (declared_as_view m)) ≡ true → cycle_number m ≡ Some 12
-number_of_rule (code.Rule xs P) e = refl
-number_of_rule (code.Derived xs t) e = absurd (false≢true e)
+number_of_rule (code.Rule body) e = refl
+number_of_rule (code.Derived body) e = absurd (false≢true e)
 number_of_rule code.Predeclared e = absurd (false≢true e)
 number_of_rule (code.Range first last) e = absurd (false≢true e)
 number_of_rule (code.Enumeration k) e = absurd (false≢true e)
@@ -99,8 +99,8 @@ number_of_rule (code.Controlled domain) e = absurd (false≢true e)
 number_of_rule (code.Static domain) e = absurd (false≢true e)
 
 number_of_derived : (m : DeclaredAs) → derived_test (Some (declared_as_view m)) ≡ true → cycle_number m ≡ Some 13
-number_of_derived (code.Derived xs t) e = refl
-number_of_derived (code.Rule xs P) e = absurd (false≢true e)
+number_of_derived (code.Derived body) e = refl
+number_of_derived (code.Rule body) e = absurd (false≢true e)
 number_of_derived code.Predeclared e = absurd (false≢true e)
 number_of_derived (code.Range first last) e = absurd (false≢true e)
 number_of_derived (code.Enumeration k) e = absurd (false≢true e)

@@ -94,8 +94,8 @@ other_than_element (variants.Enumeration j) k h = refl
 other_than_element (variants.Element j) k h = absurd (h j refl)
 other_than_element (variants.Controlled domain) k h = refl
 other_than_element (variants.Static domain) k h = refl
-other_than_element (variants.Derived xs t) k h = refl
-other_than_element (variants.Rule xs P) k h = refl
+other_than_element (variants.Derived body) k h = refl
+other_than_element (variants.Rule body) k h = refl
 
 -- the next one is no element that is counted
 pub counts_same : (ds : List Declaration) (i : ℕ) (r : CodeDeclaration) (counts : List ℕ) → Stands ds i r

@@ -1,15 +1,15 @@
 -- Free. Faults that a loop notes, one element after another.
-use Rattle.std.proofs.Common.{◌≡◌, ℕ, ◌+◌, ◌<◌, Bool, true, false, cond, List, [], ◌∷◌, ◌++◌, length, map, drop, get_or, Option, refl, sym, ap, ◌∙◌}
+use Rattle.std.proofs.Common.{◌≡◌, ℕ, ◌+◌, ◌<◌, Bool, true, false, cond, List, [], ◌∷◌, ◌++◌, length, drop, get_or, Option, refl, sym, ap, ◌∙◌, Vec, Global}
 use Rattle.std.specs.Prelude.{flat_map, not, ◌&&◌}
 use Rattle.std.proofs.lemmas.List.{at_drop_more}
 use Rattle.std.proofs.lemmas.List.Folds.{flat_map-map}
 use Rattle.std.proofs.lemmas.Grind.{flat_map-append}
 use Rattle.asm_syntax.specs.SourceTree.{Spec}
-use Rattle.asm_syntax.specs.code.Views.{item_of}
-use Rattle.asm_syntax.specs.declared.spec.Item.{Item}
 use Rattle.asm_check.specs.Names.{Meaning, InTerm, Use, uses_of, uses, declared, is_known, arguments_of, is_assignable}
 use Rattle.asm_check.specs.code.FaultLists.{faults_of_use, faults_of_bound, all_of_use, use_faults, miscounts, is_target}
 use Rattle.asm_check.specs.code.LeastFaults.{least_after}
+use Rattle.asm_check.specs.code.uses.UseViews.{uses_in, AreUsesOf}
+use Rattle.asm_check.specs.declared.uses.declaration_uses.Use.{Use as CodeUse}
 use Rattle.asm_check.proofs.LeastSoFar.{noted_after}
 
 -- the faults of what is left make of what is found what all make of it
@@ -20,19 +20,21 @@ one_step faults start before after xs i x below rest e =
     ∙ sym (at_drop_more (λ ys. least_after before (flat_map faults ys)) xs i x below)
     ∙ rest
 
-abbrev pub item_faults : Spec → Item → List (ℕ × ℕ)
-item_faults spec item = flat_map (all_of_use spec) (uses_of (item_of item))
+-- of the uses of one item
+abbrev pub list_faults : Spec → Vec CodeUse Global → List (ℕ × ℕ)
+list_faults spec v = flat_map (all_of_use spec) (uses_in v)
 
 flat_twice : {A B C : Type 0} (f : A → List B) (g : B → List C) (xs : List A) → flat_map g (flat_map f xs) ≡ flat_map (λ x. flat_map g (f x)) xs
 flat_twice f g [] = refl
 flat_twice f g (x ∷ xs) = flat_map-append g (f x) (flat_map f xs) ∙ ap (λ ys. flat_map g (f x) ++ ys) (flat_twice f g xs)
 
-pub faults_of_items : (spec : Spec) (items : List Item) → spec.items ≡ map item_of items → use_faults spec ≡ flat_map (item_faults spec) items
+pub faults_of_lists : (spec : Spec) (lists : List (Vec CodeUse Global)) → AreUsesOf spec.items lists → use_faults spec ≡ flat_map (list_faults spec) lists
 unfolding use_faults uses
-faults_of_items spec items e =
-    ap (λ ys. flat_map (all_of_use spec) (flat_map uses_of ys)) e
-    ∙ flat_twice uses_of (all_of_use spec) (map item_of items)
-    ∙ flat_map-map (λ y. flat_map (all_of_use spec) (uses_of y)) item_of items
+faults_of_lists spec lists are =
+    flat_twice uses_of (all_of_use spec) spec.items
+    ∙ sym (flat_map-map (flat_map (all_of_use spec)) uses_of spec.items)
+    ∙ ap (flat_map (flat_map (all_of_use spec))) (sym are)
+    ∙ flat_map-map (flat_map (all_of_use spec)) uses_in lists
 
 -- ---- of one use
 

@@ -1,5 +1,5 @@
 //! What the bodies of declarations hold: the word `result`, and calls of rules and uses of derived
-//! functions, as steps between declarations.
+//! functions, as steps between declarations. It looks at the uses that were collected.
 ghost use Rattle.std.specs.Prelude.{◌≡◌, ◌<◌, ℕ, All, IfOk, IfSome, Some, is_some, map, length};
 ghost use Rattle.asm_syntax.specs.SourceTree as source;
 ghost use Rattle.asm_syntax.specs.code.Views.{spec_of};
@@ -15,7 +15,7 @@ use crate::limits::limit_faults::declared_at;
 use crate::names::declared_as::DeclaredAs;
 use crate::names::first_names::{meaning, position};
 use crate::names::name_table::NameTable;
-use crate::uses::declaration_uses::{Use, uses_of_body, uses_of_named_rule};
+use crate::uses::declaration_uses::Use;
 use crate::uses::roles::{is_step, may_be_step};
 use crate::uses::rules_with_result::has_result;
 use asm_syntax::spec::Spec;
@@ -77,18 +77,16 @@ fn body_of(
         map (text_at names.now) body.steps.items ≡ onward_from spec (Some (declared_as_view meaning.entry))) }
 {
     match meaning {
-        DeclaredAs::Rule(parameters, body) => {
-            let uses = uses_of_named_rule(alloc, parameters, body)?;
-            let is_answering = has_result(&uses);
-            let steps = positions(alloc, names, &uses, true)?;
+        DeclaredAs::Rule(body) => {
+            let is_answering = has_result(body.uses);
+            let steps = positions(alloc, names, body.uses, true)?;
             Ok(DeclarationBody {
                 is_answering,
                 steps,
             })
         }
-        DeclaredAs::Derived(parameters, body) => {
-            let uses = uses_of_body(alloc, parameters, body)?;
-            let steps = positions(alloc, names, &uses, false)?;
+        DeclaredAs::Derived(body) => {
+            let steps = positions(alloc, names, body.uses, false)?;
             Ok(DeclarationBody {
                 is_answering: false,
                 steps,

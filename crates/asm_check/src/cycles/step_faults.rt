@@ -118,8 +118,8 @@ fn cycle_kind(meaning: DeclaredAs) -> Option<FaultKind>
     ensures { option_map number_of result ≡ cycle_number meaning.entry }
 {
     match meaning {
-        DeclaredAs::Rule(_, _) => Some(FaultKind::CyclicRule),
-        DeclaredAs::Derived(_, _) => Some(FaultKind::CyclicDerived),
+        DeclaredAs::Rule(_) => Some(FaultKind::CyclicRule),
+        DeclaredAs::Derived(_) => Some(FaultKind::CyclicDerived),
         _ => None,
     }
 }

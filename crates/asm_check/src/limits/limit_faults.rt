@@ -230,11 +230,11 @@ impl Totals {
                     || domain.len() > MAX_ARGUMENTS
                     || self.static_lists > MAX_STATIC_LISTS
             }
-            DeclaredAs::Derived(_, _) => {
+            DeclaredAs::Derived(_) => {
                 self.functions = self.functions.saturating_add(1);
                 self.functions > MAX_FUNCTIONS
             }
-            DeclaredAs::Rule(_, _) => {
+            DeclaredAs::Rule(_) => {
                 self.rules = self.rules.saturating_add(1);
                 self.rules > MAX_RULES
             }

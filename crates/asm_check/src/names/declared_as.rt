@@ -1,8 +1,7 @@
 //! What names stand for.
+use crate::names::declared_bodies::{DerivedBody, RuleBody};
 use asm_state::number::Number;
 use asm_syntax::name::Name;
-use asm_syntax::rule::Rule;
-use asm_syntax::term::Term;
 
 /// What a name is declared as. An element belongs to the enumeration that is
 /// this item of the specification.
@@ -14,8 +13,8 @@ pub(crate) enum DeclaredAs<'a> {
     Element(usize),
     Controlled(&'a [Name]),
     Static(&'a [Name]),
-    Derived(&'a [Name], &'a Term),
-    Rule(&'a [Name], &'a Rule),
+    Derived(DerivedBody<'a>),
+    Rule(RuleBody<'a>),
 }
 
 /// A declaration that counts, with the offset of its name.

@@ -7,15 +7,18 @@ ghost use Rattle.asm_check.specs.Faults.{parameters_of};
 ghost use Rattle.asm_check.specs.code.LeastFaults.{least_after};
 ghost use Rattle.asm_check.specs.code.names.Tables.{IsTableOf, declared_as_view, text_at, declaration_of};
 ghost use Rattle.asm_check.specs.code.names.Gathering.{Gathers, predeclares, parameter_faults};
+ghost use Rattle.asm_check.specs.code.uses.UseViews.{use_of, AreUsesOf};
 ghost use Rattle.asm_check.specs.Names as meanings;
-ghost use Rattle.asm_check.specs.Names.{declared, declares, predeclared, declarations_of, declarations_from, Element};
+ghost use Rattle.asm_check.specs.Names.{declared, declares, predeclared, declarations_of, declarations_from, uses_of, Element};
 ghost use Rattle.asm_syntax.specs.SourceTree as source;
 
 use crate::error::FaultKind;
 use crate::least_fault::LeastFault;
 use crate::names::declared_as::{Declaration, DeclaredAs};
+use crate::names::declared_bodies::{DerivedBody, RuleBody};
 use crate::names::name_hash::declared_names;
 use crate::names::name_table::NameTable;
+use crate::uses::declaration_uses::Use;
 use asm_state::function::FunctionKind;
 use asm_syntax::name::{Name, Text};
 use asm_syntax::spec::{Item, Spec};
@@ -26,15 +29,17 @@ use std::collections::BTreeSet;
 pub(crate) fn first_names<'a>(
     alloc: Global,
     spec: &'a Spec,
+    uses: &'a [Vec<Use<'a>>],
     least: &mut LeastFault,
 ) -> Result<NameTable<'a>, AllocError>
+    requires { AreUsesOf (spec_of spec.now).items uses.now }
     ensures table { IfOk result (λ names. IsTableOf (spec_of spec.now) names) }
     ensures least { OnOk result (found_of least.new.found ≡ least_after (found_of least.old.found) (twice_faults (spec_of spec.now))) }
 {
     let declared = declared_names(spec);
     let mut names = NameTable::new(alloc, declared.key, declared.count)?;
     predeclare_all(&mut names, least)?;
-    declare_items(&mut names, &spec.items, least)?;
+    declare_items(&mut names, &spec.items, uses, least)?;
     note_parameters(alloc, &spec.items, least)?;
     Ok(names)
 }
@@ -66,23 +71,27 @@ fn predeclare(
 fn declare_items<'a>(
     names: &mut NameTable<'a>,
     items: &'a [Item],
+    uses: &'a [Vec<Use<'a>>],
     least: &mut LeastFault,
 ) -> Result<(), AllocError>
+    requires { AreUsesOf (map item_of items.now) uses.now }
     ensures { OnOk result (Gathers (declarations_from 0 (map item_of items.now)) names.old (found_of least.old.found) names.new (found_of least.new.found)) }
 {
     for (k, item) in items.iter().enumerate() {
-        declare_item(names, item, k, least)?;
+        declare_item(names, item, &uses[k], k, least)?;
     }
     Ok(())
 }
 
-/// What the item with this index declares.
+/// What the item with this index declares, in which these are the uses.
 fn declare_item<'a>(
     names: &mut NameTable<'a>,
     item: &'a Item,
+    uses: &'a [Use<'a>],
     k: usize,
     least: &mut LeastFault,
 ) -> Result<(), AllocError>
+    requires { map use_of uses.now ≡ uses_of (item_of item.now) }
     ensures { OnOk result (Gathers (declarations_of k (item_of item.now)) names.old (found_of least.old.found) names.new (found_of least.new.found)) }
 {
     match item {
@@ -108,12 +117,26 @@ fn declare_item<'a>(
             name,
             parameters,
             body,
-        } => declare_name(names, name, DeclaredAs::Derived(parameters, body), least),
+        } => {
+            let body = DerivedBody {
+                parameters,
+                term: body,
+                uses,
+            };
+            declare_name(names, name, DeclaredAs::Derived(body), least)
+        }
         Item::Rule {
             name,
             parameters,
             body,
-        } => declare_name(names, name, DeclaredAs::Rule(parameters, body), least),
+        } => {
+            let body = RuleBody {
+                parameters,
+                rule: body,
+                uses,
+            };
+            declare_name(names, name, DeclaredAs::Rule(body), least)
+        }
     }
 }
 

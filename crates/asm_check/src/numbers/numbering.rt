@@ -198,11 +198,11 @@ impl Indices {
                 &mut self.functions,
                 index,
             )?))),
-            DeclaredAs::Derived(_, _) => Ok(Some(NameNumber::Derived(push(
+            DeclaredAs::Derived(_) => Ok(Some(NameNumber::Derived(push(
                 &mut self.derived,
                 index,
             )?))),
-            DeclaredAs::Rule(_, _) => Ok(Some(NameNumber::Rule(push(&mut self.rules, index)?))),
+            DeclaredAs::Rule(_) => Ok(Some(NameNumber::Rule(push(&mut self.rules, index)?))),
         }
     }
 }

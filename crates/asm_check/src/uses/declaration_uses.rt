@@ -2,7 +2,7 @@
 ghost use Rattle.std.specs.Prelude.{◌≡◌, IfOk, map};
 ghost use Rattle.asm_syntax.specs.code.Views.{name_of, item_of, term_of, rule_of};
 ghost use Rattle.asm_check.specs.Names.{text_of, rule_scope, uses_of, uses_of_term, uses_of_rule};
-ghost use Rattle.asm_check.specs.code.uses.UseViews.{use_of};
+ghost use Rattle.asm_check.specs.code.uses.UseViews.{use_of, AreUsesOf};
 
 use crate::uses::collector::Collector;
 use asm_syntax::name::Name;
@@ -36,8 +36,23 @@ pub(crate) struct Use<'a> {
     pub is_bound: bool,
 }
 
+/// The uses in each line of the specification.
+pub(crate) fn uses_of_items<'a>(
+    alloc: Global,
+    items: &'a [Item],
+) -> Result<Vec<Vec<Use<'a>>>, AllocError>
+    ensures { IfOk result (λ uses. AreUsesOf (map item_of items.now) uses.items) }
+{
+    let mut uses = Vec::with_capacity(alloc, items.len())?;
+    for item in items {
+        let of_item = uses_of_item(alloc, item)?;
+        uses.push(of_item)?;
+    }
+    Ok(uses)
+}
+
 /// The uses in a line of the specification.
-pub(crate) fn uses_of_item<'a>(alloc: Global, item: &'a Item) -> Result<Vec<Use<'a>>, AllocError>
+fn uses_of_item<'a>(alloc: Global, item: &'a Item) -> Result<Vec<Use<'a>>, AllocError>
     ensures { IfOk result (λ uses. map use_of uses.items ≡ uses_of (item_of item.now)) }
 {
     match item {
@@ -67,7 +82,7 @@ pub(crate) fn uses_of_item<'a>(alloc: Global, item: &'a Item) -> Result<Vec<Use<
 }
 
 /// The uses in the body of a derived function.
-pub(crate) fn uses_of_body<'a>(
+fn uses_of_body<'a>(
     alloc: Global,
     parameters: &'a [Name],
     body: &'a Term,
@@ -80,7 +95,7 @@ pub(crate) fn uses_of_body<'a>(
 }
 
 /// The uses in the body of a rule.
-pub(crate) fn uses_of_named_rule<'a>(
+fn uses_of_named_rule<'a>(
     alloc: Global,
     parameters: &'a [Name],
     body: &'a Rule,

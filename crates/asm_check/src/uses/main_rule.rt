@@ -69,7 +69,7 @@ fn can_be_main(meaning: Option<DeclaredAs>) -> bool
     ensures { result ≡ meanings.can_be_main (option_map declared_as_view meaning.entry) }
 {
     match meaning {
-        Some(DeclaredAs::Rule(parameters, _)) => parameters.is_empty(),
+        Some(DeclaredAs::Rule(body)) => body.parameters.is_empty(),
         _ => false,
     }
 }

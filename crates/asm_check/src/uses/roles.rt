@@ -15,7 +15,7 @@ pub(crate) fn is_known(role: Role, is_bound: bool, meaning: Option<DeclaredAs>) 
     match role {
         Role::InTerm => is_bound || has_value(meaning),
         Role::AsTarget => is_bound || meaning.is_some(),
-        Role::AsRule | Role::AsResultCall => matches!(meaning, Some(DeclaredAs::Rule(_, _))),
+        Role::AsRule | Role::AsResultCall => matches!(meaning, Some(DeclaredAs::Rule(_))),
         Role::AsUniverse => is_universe(meaning),
         Role::AsCodomain => matches!(meaning, Some(DeclaredAs::Predeclared))
             || is_universe(meaning),
@@ -34,7 +34,7 @@ fn has_value(meaning: Option<DeclaredAs>) -> bool
             DeclaredAs::Element(_)
                 | DeclaredAs::Controlled(_)
                 | DeclaredAs::Static(_)
-                | DeclaredAs::Derived(_, _)
+                | DeclaredAs::Derived(_)
         )
     )
 }
@@ -59,7 +59,7 @@ pub(crate) fn arguments_of(role: Role, is_bound: bool, meaning: Option<DeclaredA
             Some(DeclaredAs::Element(_)) => Some(0),
             Some(DeclaredAs::Controlled(domain)) => Some(domain.len()),
             Some(DeclaredAs::Static(domain)) => Some(domain.len()),
-            Some(DeclaredAs::Derived(parameters, _)) => Some(parameters.len()),
+            Some(DeclaredAs::Derived(body)) => Some(body.parameters.len()),
             _ => None,
         },
         Role::AsTarget => match meaning {
@@ -67,7 +67,7 @@ pub(crate) fn arguments_of(role: Role, is_bound: bool, meaning: Option<DeclaredA
             _ => None,
         },
         Role::AsRule | Role::AsResultCall => match meaning {
-            Some(DeclaredAs::Rule(parameters, _)) => Some(parameters.len()),
+            Some(DeclaredAs::Rule(body)) => Some(body.parameters.len()),
             _ => None,
         },
         _ => None,
@@ -93,8 +93,8 @@ pub(crate) fn is_step(
 {
     match role {
         Role::AsRule | Role::AsResultCall => in_rule
-            && matches!(meaning, Some(DeclaredAs::Rule(_, _))),
-        Role::InTerm => !in_rule && !is_bound && matches!(meaning, Some(DeclaredAs::Derived(_, _))),
+            && matches!(meaning, Some(DeclaredAs::Rule(_))),
+        Role::InTerm => !in_rule && !is_bound && matches!(meaning, Some(DeclaredAs::Derived(_))),
         _ => false,
     }
 }

@@ -1,43 +1,37 @@
 //! Uses of unknown names, with wrong numbers of arguments, or as targets that can't be assigned;
 //! with them, misuses of `result`.
-ghost use Rattle.std.specs.Prelude.{◌≡◌, OnOk, map, flat_map};
+ghost use Rattle.std.specs.Prelude.{◌≡◌, map, flat_map};
 ghost use Rattle.asm_syntax.specs.SourceTree as source;
-ghost use Rattle.asm_syntax.specs.code.Views.{spec_of};
 ghost use Rattle.asm_check.specs.code.uses.RulesWithResult.{AreWithResult};
 ghost use Rattle.asm_check.specs.Errors.{found_of};
 ghost use Rattle.asm_check.specs.code.FaultLists.{use_faults, all_of_use, faults_of_use, faults_of_bound, miscounts};
 ghost use Rattle.asm_check.specs.code.FaultLists as fault_lists;
 ghost use Rattle.asm_check.specs.code.LeastFaults.{least_after};
 ghost use Rattle.asm_check.specs.code.names.Tables.{IsTableOf};
-ghost use Rattle.asm_check.specs.code.uses.UseViews.{use_of, role_of};
+ghost use Rattle.asm_check.specs.code.uses.UseViews.{use_of, role_of, AreUsesOf};
 
 use crate::error::FaultKind;
 use crate::least_fault::LeastFault;
 use crate::names::first_names::meaning;
 use crate::names::name_table::NameTable;
-use crate::uses::declaration_uses::{Role, Use, uses_of_item};
+use crate::uses::declaration_uses::{Role, Use};
 use crate::uses::roles::{arguments_of, is_assignable, is_known};
 use crate::uses::rules_with_result::note_misuse;
-use asm_syntax::spec::Spec;
-use std::alloc::{AllocError, Global};
 
-/// Notes the faults of all uses.
+/// Notes the faults of all uses, which are those of the items of the specification.
 pub(crate) fn note_uses(
-    alloc: Global,
-    spec: &Spec,
     names: &NameTable,
     with_result: &[bool],
+    uses: &[Vec<Use>],
     least: &mut LeastFault,
-) -> Result<(), AllocError>
-    requires table { IsTableOf (spec_of spec.now) names.now }
-    requires answering { AreWithResult names.now with_result.now }
-    ensures { OnOk result (found_of least.new.found ≡ least_after (found_of least.old.found) (use_faults (spec_of spec.now))) }
+)
+    requires { AreWithResult names.now with_result.now }
+    ensures { (spec : source.Spec) → IsTableOf spec names.now → AreUsesOf spec.items uses.now →
+        found_of least.new.found ≡ least_after (found_of least.old.found) (use_faults spec) }
 {
-    for item in &spec.items {
-        let uses = uses_of_item(alloc, item)?;
-        note_each(names, with_result, &uses, least);
+    for list in uses {
+        note_each(names, with_result, list, least);
     }
-    Ok(())
 }
 
 /// Notes the faults of these uses.

@@ -3,8 +3,8 @@
 --                                                       sequence and of turns
 --     part_within, parts_within, each_within            what a part makes the whole makes
 --     *_steps                                           a sequence and turns from part to part
-use Rattle.std.proofs.Common.{◌≡◌, ℕ, zero, suc, ◌+◌, ◌<◌, ◌≤◌, Bool, true, false, cond, List, [], ◌∷◌, length, map, ◌++◌, drop, Option, Some, None, Vec, Global, refl, sym, ap, subst, ◌∙◌, arith, get_or, add-one}
-use Rattle.std.specs.Prelude.{slice_get, option_map, Result as Returned, IfOk, IfErr}
+use Rattle.std.proofs.Common.{◌≡◌, ℕ, zero, suc, ◌+◌, ◌<◌, ◌≤◌, Bool, true, false, cond, List, [], ◌∷◌, length, map, ◌++◌, drop, Option, Some, None, refl, sym, ap, subst, ◌∙◌, arith, get_or, add-one}
+use Rattle.std.specs.Prelude.{slice_get, option_map}
 use Rattle.std.proofs.lemmas.Option.{slice_get_read}
 use Rattle.asm_state.specs.declared.value.Value.{Value}
 use Rattle.asm_state.specs.Location.{State}
@@ -24,12 +24,10 @@ use Rattle.asm_eval.specs.code.Evaluation.{frame_locations, passing_in, optional
 use Rattle.asm_eval.specs.declared.frame.Frame.{Frame}
 use Rattle.asm_explore.specs.declared.exploration.Exploration.{Exploration}
 use Rattle.asm_explore.specs.declared.outcomes.listed_outcome.Choice.{Choice}
-use Rattle.asm_explore.specs.declared.outcomes.listed_outcome.ListedOutcome.{ListedOutcome}
-use Rattle.asm_explore.specs.declared.outcomes.outcomes_error.OutcomesError.{OutcomesError}
-use Rattle.asm_explore.specs.code.OverLimit.{IsAmong, Refuses}
+use Rattle.asm_explore.specs.code.OverLimit.{IsAmong}
 use Rattle.asm_explore.specs.code.ExploredRules.{exploration_shape, exploration_state, here_on, made_on, makes_on, parts_made_from, order_made_from, turns_made_from, parts_made_on, order_made_on}
-use Rattle.asm_explore.specs.code.OutcomeLists.{Situation, picked, HaveChoices}
-use Rattle.asm_explore.specs.code.ChoicesMade.{made, AreMade, IsWay}
+use Rattle.asm_explore.specs.code.OutcomeLists.{Situation, picked}
+use Rattle.asm_explore.specs.code.ChoicesMade.{made}
 use Rattle.asm_explore.specs.code.ChoicesMadeSoFar.{MakesTo}
 use Rattle.asm_explore.proofs.Elements.{any_first, any_last}
 use Rattle.asm_explore.proofs.ChoiceLemmas.MadeRules as rules
@@ -172,12 +170,3 @@ module _ (on : Exploration) (f : Frame) (p : Path) where
   turn_steps R left t s B =
       rules.turns_next (exploration_shape on) on.turns (picked s) rs ls (exploration_state on) p R left t B
       ∙ ap (λ cs. made_on on f (at p t) R s B ++ cs) (rules.turn_after (here_on on f (at p t) R s B) (λ V. turns_left R left (t + 1) s (fire B V)))
-
-  -- what a call promises, of a rule with the same tree
-  pub ok_tree : (R S : tree.RuleCode) (r : Returned (Vec ListedOutcome Global) OutcomesError) → R ≡ S
-      → IfOk r (λ fs. HaveChoices (AreMade (makes_on on f p R)) fs.items) → IfOk r (λ fs. HaveChoices (AreMade (makes_on on f p S)) fs.items)
-  ok_tree R S r = subst (λ T. IfOk r (λ fs. HaveChoices (AreMade (makes_on on f p T)) fs.items))
-
-  pub refused_tree : (R S : tree.RuleCode) (r : Returned (Vec ListedOutcome Global) OutcomesError) → R ≡ S
-      → IfErr r (Refuses on.limit (λ q. IsWay p (makes_on on f p R))) → IfErr r (Refuses on.limit (λ q. IsWay p (makes_on on f p S)))
-  refused_tree R S r = subst (λ T. IfErr r (Refuses on.limit (λ q. IsWay p (makes_on on f p T))))

@@ -4,8 +4,7 @@
 --     candidate_yields          what the body of a choose yields for one candidate
 --     order_left, turns_left    what is left of parts, and of turns, one after the other
 --     ok_same                   a call's promise, of a rule that yields the same
-use Rattle.std.proofs.Common.{◌≡◌, ℕ, zero, suc, ◌+◌, ◌<◌, ◌≤◌, ◌%◌, Bool, true, false, cond, not, ◌||◌, List, [], ◌∷◌, length, map, filter, ◌++◌, take, drop, Option, Some, None, Vec, Global, Box, ◌⊎◌, inl, inr, refl, sym, ap, subst, ◌∙◌, arith, get_or, add-one}
-use Rattle.std.specs.Arc.{arc_value}
+use Rattle.std.proofs.Common.{◌≡◌, ℕ, zero, suc, ◌+◌, ◌<◌, ◌≤◌, ◌%◌, Bool, true, false, cond, not, ◌||◌, List, [], ◌∷◌, length, map, filter, ◌++◌, take, drop, Option, Some, None, Vec, Global, ◌⊎◌, inl, inr, refl, sym, ap, subst, ◌∙◌, arith, get_or, add-one}
 use Rattle.std.specs.Prelude.{slice_get, option_map, Result as Returned, IfOk}
 use Rattle.std.proofs.Math.Nat.{mod-eq_of_lt}
 use Rattle.std.proofs.lemmas.List.Elements.{filter_more}
@@ -247,30 +246,6 @@ module _ (on : Exploration) (f : Frame) (p : Path) where
   pub seq_yields : (R : RuleCode) (Ps : Vec RuleCode Global) → R ≡ code.Seq Ps → (Qs : List RuleCode) → Qs ≡ Ps.items → (s : Situation)
       → in_order_on on f p (rules_of (map rule_of Qs)) s ≡ yields_on on f p (rule_of R) s
   seq_yields R Ps is Qs same s = ap (λ (o : Outcome). o.result) (rules.seq_yields (exploration_shape on) on.turns (picked s) rs ls (exploration_state on) p R Ps is Qs same)
-
-  pub if_is : (R : RuleCode) (c : Code) (P Q : Box RuleCode Global) → R ≡ code.If c P Q → (S N : RuleCode) → S ≡ P.value → N ≡ Q.value → (s : Situation)
-      → yields_on on f p (tree.If (code_of c) (rule_of S) (rule_of N)) s ≡ yields_on on f p (rule_of R) s
-  if_is R c P Q is S N same same' s = ap (λ (o : Outcome). o.result) (rules.if_is (exploration_shape on) on.turns (picked s) rs ls (exploration_state on) p R c P Q is c S N refl same same')
-
-  pub let_is : (R : RuleCode) (t : Code) (Q : Box RuleCode Global) → R ≡ code.Let t Q → (S : RuleCode) → S ≡ Q.value → (s : Situation)
-      → yields_on on f p (tree.Let (code_of t) (rule_of S)) s ≡ yields_on on f p (rule_of R) s
-  let_is R t Q is S same s = ap (λ (o : Outcome). o.result) (rules.let_is (exploration_shape on) on.turns (picked s) rs ls (exploration_state on) p R t Q is t S refl same)
-
-  pub forall_is : (R : RuleCode) (u : ℕ) (c : Option Code) (Q : Box RuleCode Global) → R ≡ code.Forall u c Q → (S : RuleCode) → S ≡ Q.value → (s : Situation)
-      → yields_on on f p (tree.Forall u (option_map code_of c) (rule_of S)) s ≡ yields_on on f p (rule_of R) s
-  forall_is R u c Q is S same s = ap (λ (o : Outcome). o.result) (rules.forall_is (exploration_shape on) on.turns (picked s) rs ls (exploration_state on) p R u c Q is c S refl same)
-
-  pub choose_is : (R : RuleCode) (u : ℕ) (c : Option Code) (P Q : Box RuleCode Global) → R ≡ code.Choose u c P Q → (S N : RuleCode) → S ≡ P.value → N ≡ Q.value → (s : Situation)
-      → yields_on on f p (tree.Choose u (option_map code_of c) (rule_of S) (rule_of N)) s ≡ yields_on on f p (rule_of R) s
-  choose_is R u c P Q is S N same same' s = ap (λ (o : Outcome). o.result) (rules.choose_is (exploration_shape on) on.turns (picked s) rs ls (exploration_state on) p R u c P Q is c S N refl same same')
-
-  pub iterate_is : (R : RuleCode) (Q : Box RuleCode Global) → R ≡ code.Iterate Q → (S : RuleCode) → S ≡ Q.value → (s : Situation)
-      → yields_on on f p (tree.Iterate (rule_of S)) s ≡ yields_on on f p (rule_of R) s
-  iterate_is R Q is S same s = ap (λ (o : Outcome). o.result) (rules.iterate_yields (exploration_shape on) on.turns (picked s) rs ls (exploration_state on) p R Q is S same)
-
-  pub call_is : (R : RuleCode) (body : _) (to : Option TargetCode) (ts : Vec Code Global) → R ≡ code.Call body to ts → (S : RuleCode) (us : List Code) → S ≡ arc_value body → us ≡ ts.items → (s : Situation)
-      → yields_on on f p (tree.Call (rule_of S) (option_map target_code_of to) (codes_of (map code_of us))) s ≡ yields_on on f p (rule_of R) s
-  call_is R body to ts is S us same are s = ap (λ (o : Outcome). o.result) (rules.call_is (exploration_shape on) on.turns (picked s) rs ls (exploration_state on) p R body to ts is S to us same refl are)
 
   -- ---- the same by the parts
 

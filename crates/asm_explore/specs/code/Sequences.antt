@@ -13,7 +13,8 @@
 --     Underway                what stays true from part to part: each situation has its whole
 --                             outcome among those that are done, or the set so far among those that
 --                             go on
-use Rattle.std.specs.Prelude.{◌≡◌, ℕ, ◌+◌, Bool, false, cond, not, ◌&&◌, ◌||◌, List, ◌⊎◌, ◌++◌, Result as Returned, IfOk, IfErr}
+--     EndsLists, EndsSequence    what a call promises that ends a sequence
+use Rattle.std.specs.Prelude.{◌≡◌, ◌<◌, ℕ, ◌+◌, Bool, false, cond, not, ◌&&◌, ◌||◌, List, ◌⊎◌, ◌++◌, length, Result as Returned, IfOk, IfErr}
 use Rattle.std.proofs.Common.{Vec, Global}
 use Rattle.asm_state.specs.Location.{State}
 use Rattle.asm_state.specs.Signature.{Shape, count_of}
@@ -23,13 +24,14 @@ use Rattle.asm_updates.specs.code.Stands.{Stands}
 use Rattle.asm_meaning.specs.Yields.{Path, Result, Gives, Exhausted, at, after}
 use Rattle.asm_explore.specs.declared.outcomes.listed_outcome.Choice.{Choice}
 use Rattle.asm_explore.specs.declared.outcomes.listed_outcome.ListedOutcome.{ListedOutcome}
+use Rattle.asm_explore.specs.declared.outcomes.list_error.ListError.{ListError}
 use Rattle.asm_explore.specs.declared.outcomes.outcomes_error.OutcomesError.{OutcomesError}
 use Rattle.asm_explore.specs.declared.outcomes.sequence_outcomes.SequenceOutcomes.{SequenceOutcomes}
 use Rattle.asm_explore.specs.code.OutcomeLists.{Situation, Each, AnyOf, AreTaken, Shows, Shown, HaveChoices, IsCounted, AreCounted, IsSound, Lists, ListGrows}
 use Rattle.asm_explore.specs.code.ChoicesMade.{AreMade, IsWay}
 use Rattle.asm_explore.specs.code.ChoicePaths.{LieBelow, IsPlacedBefore}
 use Rattle.asm_explore.specs.code.ChoiceLists.{choice_lists, AreSomeOf, behind}
-use Rattle.asm_explore.specs.code.OverLimit.{AreDifferent, Refuses}
+use Rattle.asm_explore.specs.code.OverLimit.{AreDifferent, IfTooMany, IsOverLimit, NamesRule, Refuses}
 
 abbrev pub ends : (turns : Bool) → UpdateSet → Bool
 ends turns V = (turns && is_none V) || not (is_consistent V)
@@ -190,3 +192,21 @@ pub record Exhausts (p : Path) (old more new : List ListedOutcome) : Type 0 wher
       → Each (IsSound shape o) old → Each (IsSound shape o) new
   pub placed : (q : Path) → HaveChoices (LieBelow q) old → HaveChoices (LieBelow q) more → HaveChoices (LieBelow q) new
   pub chosen : AreSomeOf (choice_lists new) (choice_lists old ++ choice_lists more)
+
+-- what a call promises that ends a sequence, if nothing but this is left upon each of the sets so
+-- far
+pub record EndsLists (last : Result) (limit : ℕ) (sorted : SequenceOutcomes) (result : Returned (Vec ListedOutcome Global) ListError) : Type 0 where
+  pub lists : (shape : Shape) (A : State) (total : Situation → Result) (left : Situation → State → Result) → ((s : Situation) (B : State) → left s B ≡ last)
+      → Underway shape A total left sorted.done.items sorted.more.items → IfOk result (λ fs. Lists shape total fs.items)
+  pub placed : (p : Path) → BothHave (LieBelow p) sorted → IfOk result (λ fs. HaveChoices (LieBelow p) fs.items)
+  pub chosen : IfOk result (λ fs. AreSomeOf (choice_lists fs.items) (both_ways sorted))
+  pub crowd : IfErr result (IfTooMany (limit < length (both_ways sorted)))
+
+-- the same, if the rule at this path is named in a refusal
+pub record EndsSequence (last : Result) (limit : ℕ) (path : Path) (sorted : SequenceOutcomes) (result : Returned (Vec ListedOutcome Global) OutcomesError) : Type 0 where
+  pub lists : (shape : Shape) (A : State) (total : Situation → Result) (left : Situation → State → Result) → ((s : Situation) (B : State) → left s B ≡ last)
+      → Underway shape A total left sorted.done.items sorted.more.items → IfOk result (λ fs. Lists shape total fs.items)
+  pub placed : BothHave (LieBelow path) sorted → IfOk result (λ fs. HaveChoices (LieBelow path) fs.items)
+  pub chosen : IfOk result (λ fs. AreSomeOf (choice_lists fs.items) (both_ways sorted))
+  pub names : IfErr result (NamesRule path (length sorted.done.items) (length sorted.more.items))
+  pub crowd : IfErr result (IsOverLimit limit (both_ways sorted))

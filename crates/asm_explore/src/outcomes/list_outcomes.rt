@@ -19,6 +19,7 @@ ghost use Rattle.asm_explore.specs.declared.outcomes.listed_outcome.Choice.{Choi
 ghost use Rattle.asm_explore.specs.declared.outcomes.listed_outcome.ListedOutcome.{ListedOutcome as found_now};
 ghost use Rattle.asm_explore.specs.code.OverLimit.{AreDifferent, Refuses};
 ghost use Rattle.asm_explore.specs.code.ExploredRules.{exploration_shape, exploration_state, yields_on, parts_on, in_order_on, here_on, made_on, makes_on, parts_made_on, order_made_on};
+ghost use Rattle.asm_explore.specs.code.ListedRules.{ListsOutcomes};
 ghost use Rattle.asm_explore.specs.code.OutcomeLists.{Situation, HaveChoices, AreCounted, IsCounted, Lists};
 ghost use Rattle.asm_explore.specs.code.ChoicesMade.{AreMade, IsWay};
 ghost use Rattle.asm_explore.specs.code.ChoicesMadeSoFar.{MadeSoFar, MakesOfAll, MakesTo};
@@ -78,11 +79,8 @@ pub fn outcomes<'e>(
 ) -> Result<Vec<ListedOutcome>, OutcomesError>
     requires sound { IsSoundRule (exploration_shape exploration.now) (rule_of rule.now) }
     requires framed { IsSoundFrame (exploration_shape exploration.now) frame.now }
-    ensures lists { IfOk result (λ fs. Lists (exploration_shape exploration.now) (yields_on exploration.now frame.now path.now (rule_of rule.now)) fs.items) }
-    ensures placed { IfOk result (λ fs. HaveChoices (LieBelow path.now) fs.items) }
-    ensures differ { IfOk result (λ fs. AreDifferent path.now (choice_lists fs.items)) }
-    ensures made { IfOk result (λ fs. HaveChoices (AreMade (makes_on exploration.now frame.now path.now (rule_of rule.now))) fs.items) }
-    ensures crowded { IfErr result (Refuses exploration.now.limit (λ q. IsWay path.now (makes_on exploration.now frame.now path.now (rule_of rule.now)))) }
+    ensures { let R = rule_of rule.now in
+        ListsOutcomes exploration.now path.now (yields_on exploration.now frame.now path.now R) (makes_on exploration.now frame.now path.now R) result }
 {
     match rule {
         RuleCode::Skip => {
@@ -135,12 +133,8 @@ fn list_part<'e>(
 ) -> Result<Vec<ListedOutcome>, OutcomesError>
     requires sound { IsSoundRule (exploration_shape exploration.now) (rule_of rule.now) }
     requires framed { IsSoundFrame (exploration_shape exploration.now) frame.now }
-    ensures lists { IfOk result (λ fs. Lists (exploration_shape exploration.now) (yields_on exploration.now frame.now (yields.at path.now number) (rule_of rule.now)) fs.items) }
-    ensures placed { IfOk result (λ fs. HaveChoices (LieBelow (yields.at path.now number)) fs.items) }
-    ensures differ { IfOk result (λ fs. AreDifferent (yields.at path.now number) (choice_lists fs.items)) }
-    ensures made { IfOk result (λ fs. HaveChoices (AreMade (makes_on exploration.now frame.now (yields.at path.now number) (rule_of rule.now))) fs.items) }
-    ensures crowded { let here = yields.at path.now number in
-        IfErr result (Refuses exploration.now.limit (λ q. IsWay here (makes_on exploration.now frame.now here (rule_of rule.now)))) }
+    ensures { let here = yields.at path.now number in let R = rule_of rule.now in
+        ListsOutcomes exploration.now here (yields_on exploration.now frame.now here R) (makes_on exploration.now frame.now here R) result }
 {
     if path.len() < MAX_SHORT_PATH {
         let mut below = [0u64; MAX_SHORT_PATH];
@@ -167,14 +161,8 @@ fn list_if<'e>(
     requires sound { IsSoundRule (exploration_shape exploration.now) (rule_of yes.now) }
     requires sound_no { IsSoundRule (exploration_shape exploration.now) (rule_of no.now) }
     requires framed { IsSoundFrame (exploration_shape exploration.now) frame.now }
-    ensures lists { let R = tree.If (code_of test.now) (rule_of yes.now) (rule_of no.now) in
-        IfOk result (λ fs. Lists (exploration_shape exploration.now) (yields_on exploration.now frame.now path.now R) fs.items) }
-    ensures placed { IfOk result (λ fs. HaveChoices (LieBelow path.now) fs.items) }
-    ensures differ { IfOk result (λ fs. AreDifferent path.now (choice_lists fs.items)) }
-    ensures made { let R = tree.If (code_of test.now) (rule_of yes.now) (rule_of no.now) in
-        IfOk result (λ fs. HaveChoices (AreMade (makes_on exploration.now frame.now path.now R)) fs.items) }
-    ensures crowded { let R = tree.If (code_of test.now) (rule_of yes.now) (rule_of no.now) in
-        IfErr result (Refuses exploration.now.limit (λ q. IsWay path.now (makes_on exploration.now frame.now path.now R))) }
+    ensures { let R = tree.If (code_of test.now) (rule_of yes.now) (rule_of no.now) in
+        ListsOutcomes exploration.now path.now (yields_on exploration.now frame.now path.now R) (makes_on exploration.now frame.now path.now R) result }
 {
     if holds(exploration.view, frame, test) {
         list_part(alloc, exploration, frame, yes, 0, path)
@@ -196,14 +184,8 @@ fn list_let<'e>(
     requires sound_term { IsSound (exploration_shape exploration.now) (code_of term.now) }
     requires sound { IsSoundRule (exploration_shape exploration.now) (rule_of body.now) }
     requires framed { IsSoundFrame (exploration_shape exploration.now) frame.now }
-    ensures lists { let R = tree.Let (code_of term.now) (rule_of body.now) in
-        IfOk result (λ fs. Lists (exploration_shape exploration.now) (yields_on exploration.now frame.now path.now R) fs.items) }
-    ensures placed { IfOk result (λ fs. HaveChoices (LieBelow path.now) fs.items) }
-    ensures differ { IfOk result (λ fs. AreDifferent path.now (choice_lists fs.items)) }
-    ensures made { let R = tree.Let (code_of term.now) (rule_of body.now) in
-        IfOk result (λ fs. HaveChoices (AreMade (makes_on exploration.now frame.now path.now R)) fs.items) }
-    ensures crowded { let R = tree.Let (code_of term.now) (rule_of body.now) in
-        IfErr result (Refuses exploration.now.limit (λ q. IsWay path.now (makes_on exploration.now frame.now path.now R))) }
+    ensures { let R = tree.Let (code_of term.now) (rule_of body.now) in
+        ListsOutcomes exploration.now path.now (yields_on exploration.now frame.now path.now R) (makes_on exploration.now frame.now path.now R) result }
 {
     let value = value(exploration.view, frame, term);
     let bound = Frame::One {
@@ -224,11 +206,8 @@ fn list_all<'e>(
 ) -> Result<Vec<ListedOutcome>, OutcomesError>
     requires sound { AreSoundRules (exploration_shape exploration.now) (rules_of (map rule_of parts.now)) }
     requires framed { IsSoundFrame (exploration_shape exploration.now) frame.now }
-    ensures lists { IfOk result (λ fs. Lists (exploration_shape exploration.now) (parts_on exploration.now frame.now path.now (rules_of (map rule_of parts.now))) fs.items) }
-    ensures placed { IfOk result (λ fs. HaveChoices (LieBelow path.now) fs.items) }
-    ensures differ { IfOk result (λ fs. AreDifferent path.now (choice_lists fs.items)) }
-    ensures made { IfOk result (λ fs. HaveChoices (AreMade (parts_made_on exploration.now frame.now path.now (rules_of (map rule_of parts.now)))) fs.items) }
-    ensures crowded { IfErr result (Refuses exploration.now.limit (λ q. IsWay path.now (parts_made_on exploration.now frame.now path.now (rules_of (map rule_of parts.now))))) }
+    ensures { let Rs = rules_of (map rule_of parts.now) in
+        ListsOutcomes exploration.now path.now (parts_on exploration.now frame.now path.now Rs) (parts_made_on exploration.now frame.now path.now Rs) result }
 {
     let mut found = empty(alloc, exploration)?;
     let mut i = parts.len();
@@ -257,14 +236,8 @@ fn list_each<'e>(
     requires sound_test { IsSoundTest (exploration_shape exploration.now) (option_map code_of test.now) }
     requires sound { IsSoundRule (exploration_shape exploration.now) (rule_of body.now) }
     requires framed { IsSoundFrame (exploration_shape exploration.now) frame.now }
-    ensures lists { let R = tree.Forall over (option_map code_of test.now) (rule_of body.now) in
-        IfOk result (λ fs. Lists (exploration_shape exploration.now) (yields_on exploration.now frame.now path.now R) fs.items) }
-    ensures placed { IfOk result (λ fs. HaveChoices (LieBelow path.now) fs.items) }
-    ensures differ { IfOk result (λ fs. AreDifferent path.now (choice_lists fs.items)) }
-    ensures made { let R = tree.Forall over (option_map code_of test.now) (rule_of body.now) in
-        IfOk result (λ fs. HaveChoices (AreMade (makes_on exploration.now frame.now path.now R)) fs.items) }
-    ensures crowded { let R = tree.Forall over (option_map code_of test.now) (rule_of body.now) in
-        IfErr result (Refuses exploration.now.limit (λ q. IsWay path.now (makes_on exploration.now frame.now path.now R))) }
+    ensures { let R = tree.Forall over (option_map code_of test.now) (rule_of body.now) in
+        ListsOutcomes exploration.now path.now (yields_on exploration.now frame.now path.now R) (makes_on exploration.now frame.now path.now R) result }
 {
     let mut found = empty(alloc, exploration)?;
     let universe = exploration.view.signature.universe(over);
@@ -349,14 +322,8 @@ fn list_choose<'e>(
     requires sound { IsSoundRule (exploration_shape exploration.now) (rule_of body.now) }
     requires sound_none { IsSoundRule (exploration_shape exploration.now) (rule_of none.now) }
     requires framed { IsSoundFrame (exploration_shape exploration.now) frame.now }
-    ensures lists { let R = tree.Choose over (option_map code_of test.now) (rule_of body.now) (rule_of none.now) in
-        IfOk result (λ fs. Lists (exploration_shape exploration.now) (yields_on exploration.now frame.now path.now R) fs.items) }
-    ensures placed { IfOk result (λ fs. HaveChoices (LieBelow path.now) fs.items) }
-    ensures differ { IfOk result (λ fs. AreDifferent path.now (choice_lists fs.items)) }
-    ensures made { let R = tree.Choose over (option_map code_of test.now) (rule_of body.now) (rule_of none.now) in
-        IfOk result (λ fs. HaveChoices (AreMade (makes_on exploration.now frame.now path.now R)) fs.items) }
-    ensures crowded { let R = tree.Choose over (option_map code_of test.now) (rule_of body.now) (rule_of none.now) in
-        IfErr result (Refuses exploration.now.limit (λ q. IsWay path.now (makes_on exploration.now frame.now path.now R))) }
+    ensures { let R = tree.Choose over (option_map code_of test.now) (rule_of body.now) (rule_of none.now) in
+        ListsOutcomes exploration.now path.now (yields_on exploration.now frame.now path.now R) (makes_on exploration.now frame.now path.now R) result }
 {
     let values = candidates(alloc, exploration.view, frame, over, test)?;
     let all = values.as_slice();
@@ -391,14 +358,8 @@ fn list_call<'e>(
     requires sound_answer { IsSoundOptionalTarget (exploration_shape exploration.now) (option_map target_code_of answer.now) }
     requires sound_arguments { AreSound (exploration_shape exploration.now) (codes_of (map code_of arguments.now)) }
     requires framed { IsSoundFrame (exploration_shape exploration.now) frame.now }
-    ensures lists { let R = tree.Call (rule_of body.now) (option_map target_code_of answer.now) (codes_of (map code_of arguments.now)) in
-        IfOk result (λ fs. Lists (exploration_shape exploration.now) (yields_on exploration.now frame.now path.now R) fs.items) }
-    ensures placed { IfOk result (λ fs. HaveChoices (LieBelow path.now) fs.items) }
-    ensures differ { IfOk result (λ fs. AreDifferent path.now (choice_lists fs.items)) }
-    ensures made { let R = tree.Call (rule_of body.now) (option_map target_code_of answer.now) (codes_of (map code_of arguments.now)) in
-        IfOk result (λ fs. HaveChoices (AreMade (makes_on exploration.now frame.now path.now R)) fs.items) }
-    ensures crowded { let R = tree.Call (rule_of body.now) (option_map target_code_of answer.now) (codes_of (map code_of arguments.now)) in
-        IfErr result (Refuses exploration.now.limit (λ q. IsWay path.now (makes_on exploration.now frame.now path.now R))) }
+    ensures { let R = tree.Call (rule_of body.now) (option_map target_code_of answer.now) (codes_of (map code_of arguments.now)) in
+        ListsOutcomes exploration.now path.now (yields_on exploration.now frame.now path.now R) (makes_on exploration.now frame.now path.now R) result }
 {
     let answer = optional_target_number(alloc, exploration.view, frame, answer)?;
     let bound = Frame::Terms {
@@ -421,11 +382,8 @@ fn list_in_order<'e>(
 ) -> Result<Vec<ListedOutcome>, OutcomesError>
     requires sound { AreSoundRules (exploration_shape exploration.now) (rules_of (map rule_of parts.now)) }
     requires framed { IsSoundFrame (exploration_shape exploration.now) frame.now }
-    ensures lists { IfOk result (λ fs. Lists (exploration_shape exploration.now) (in_order_on exploration.now frame.now path.now (rules_of (map rule_of parts.now))) fs.items) }
-    ensures placed { IfOk result (λ fs. HaveChoices (LieBelow path.now) fs.items) }
-    ensures differ { IfOk result (λ fs. AreDifferent path.now (choice_lists fs.items)) }
-    ensures made { IfOk result (λ fs. HaveChoices (AreMade (order_made_on exploration.now frame.now path.now (rules_of (map rule_of parts.now)))) fs.items) }
-    ensures crowded { IfErr result (Refuses exploration.now.limit (λ q. IsWay path.now (order_made_on exploration.now frame.now path.now (rules_of (map rule_of parts.now))))) }
+    ensures { let Rs = rules_of (map rule_of parts.now) in
+        ListsOutcomes exploration.now path.now (in_order_on exploration.now frame.now path.now Rs) (order_made_on exploration.now frame.now path.now Rs) result }
 {
     let begin = empty(alloc, exploration)?;
     let mut sorted = SequenceOutcomes {
@@ -463,14 +421,8 @@ fn list_turns<'e>(
 ) -> Result<Vec<ListedOutcome>, OutcomesError>
     requires sound { IsSoundRule (exploration_shape exploration.now) (rule_of body.now) }
     requires framed { IsSoundFrame (exploration_shape exploration.now) frame.now }
-    ensures lists { let R = tree.Iterate (rule_of body.now) in
-        IfOk result (λ fs. Lists (exploration_shape exploration.now) (yields_on exploration.now frame.now path.now R) fs.items) }
-    ensures placed { IfOk result (λ fs. HaveChoices (LieBelow path.now) fs.items) }
-    ensures differ { IfOk result (λ fs. AreDifferent path.now (choice_lists fs.items)) }
-    ensures made { let R = tree.Iterate (rule_of body.now) in
-        IfOk result (λ fs. HaveChoices (AreMade (makes_on exploration.now frame.now path.now R)) fs.items) }
-    ensures crowded { let R = tree.Iterate (rule_of body.now) in
-        IfErr result (Refuses exploration.now.limit (λ q. IsWay path.now (makes_on exploration.now frame.now path.now R))) }
+    ensures { let R = tree.Iterate (rule_of body.now) in
+        ListsOutcomes exploration.now path.now (yields_on exploration.now frame.now path.now R) (makes_on exploration.now frame.now path.now R) result }
 {
     let begin = empty(alloc, exploration)?;
     let mut sorted = SequenceOutcomes {

@@ -1,15 +1,14 @@
 //! Lists of outcomes of the rule at a path: if one has more than the limit says, the refusal names
 //! the path, and how many outcomes the rule's parts have.
 ghost use Rattle.std.specs.Prelude.{◌≡◌, ◌<◌, ℕ, ◌+◌, ◌∷◌, ◌++◌, [], List, length, IfOk, IfErr, IsErr, OnOk, OnErr};
-ghost use Rattle.asm_state.specs.Location.{State};
-ghost use Rattle.asm_state.specs.Signature.{Shape, count_of};
+ghost use Rattle.asm_state.specs.Signature.{count_of};
 ghost use Rattle.asm_meaning.specs.Yields as yields;
 ghost use Rattle.asm_meaning.specs.Yields.{Result as Yielded, Gives, Exhausted};
 ghost use Rattle.asm_state.specs.Updates.{none};
 ghost use Rattle.asm_explore.specs.code.OverLimit.{NamesRule, IfTooMany, IsOverLimit};
 ghost use Rattle.asm_explore.specs.code.OutcomeLists.{Situation, HaveChoices, AreCounted, IsPicked, Lists};
 ghost use Rattle.asm_explore.specs.code.ChoicePaths.{LieBelow, IsPlacedFrom};
-ghost use Rattle.asm_explore.specs.code.Sequences.{BothHave, both_ways, SortsAll, Underway};
+ghost use Rattle.asm_explore.specs.code.Sequences.{both_ways, SortsAll, EndsSequence};
 ghost use Rattle.asm_explore.specs.code.ChoiceLists.{choice_lists, AreSomeOf, behind, all_joined, with_choice};
 ghost use Rattle.asm_explore.specs.declared.outcomes.listed_outcome.Choice.{Choice};
 
@@ -149,12 +148,7 @@ pub(crate) fn close(
     limit: usize,
     path: &[u64],
 ) -> Result<Vec<ListedOutcome>, OutcomesError>
-    ensures lists { (shape : Shape) (A : State) (total : Situation → Yielded) (left : Situation → State → Yielded) → ((s : Situation) (B : State) → left s B ≡ Gives none) →
-        Underway shape A total left sorted.done.items sorted.more.items → IfOk result (λ fs. Lists shape total fs.items) }
-    ensures placed { BothHave (LieBelow path.now) sorted → IfOk result (λ fs. HaveChoices (LieBelow path.now) fs.items) }
-    ensures chosen { IfOk result (λ fs. AreSomeOf (choice_lists fs.items) (both_ways sorted)) }
-    ensures names { IfErr result (NamesRule path.now (length sorted.done.items) (length sorted.more.items)) }
-    ensures crowd { IfErr result (IsOverLimit limit (both_ways sorted)) }
+    ensures { EndsSequence (Gives none) limit path.now sorted result }
 {
     let (first, others) = (sorted.done.len(), sorted.more.len());
     match sequence_outcomes::close(alloc, sorted, limit) {
@@ -170,12 +164,7 @@ pub(crate) fn exhaust(
     path: &[u64],
     limit: usize,
 ) -> Result<Vec<ListedOutcome>, OutcomesError>
-    ensures lists { (shape : Shape) (A : State) (total : Situation → Yielded) (left : Situation → State → Yielded) → ((s : Situation) (B : State) → left s B ≡ Exhausted path.now) →
-        Underway shape A total left sorted.done.items sorted.more.items → IfOk result (λ fs. Lists shape total fs.items) }
-    ensures placed { BothHave (LieBelow path.now) sorted → IfOk result (λ fs. HaveChoices (LieBelow path.now) fs.items) }
-    ensures chosen { IfOk result (λ fs. AreSomeOf (choice_lists fs.items) (both_ways sorted)) }
-    ensures names { IfErr result (NamesRule path.now (length sorted.done.items) (length sorted.more.items)) }
-    ensures crowd { IfErr result (IsOverLimit limit (both_ways sorted)) }
+    ensures { EndsSequence (Exhausted path.now) limit path.now sorted result }
 {
     let (first, others) = (sorted.done.len(), sorted.more.len());
     match sequence_outcomes::exhaust(alloc, sorted, path, limit) {

@@ -1,16 +1,13 @@
 //! How a sequence goes on: the sets so far, and what a part yields upon one of them.
 ghost use Rattle.std.specs.Prelude.{◌≡◌, ◌+◌, ◌≤◌, ◌<◌, ◌++◌, length, IfOk, IfErr, OnOk};
-ghost use Rattle.asm_state.specs.Location.{State};
-ghost use Rattle.asm_state.specs.Signature.{Shape, count_of};
+ghost use Rattle.asm_state.specs.Signature.{count_of};
 ghost use Rattle.asm_state.specs.Updates.{none};
-ghost use Rattle.asm_meaning.specs.Yields as yields;
-ghost use Rattle.asm_meaning.specs.Yields.{Result as Yielded, Gives, Exhausted};
+ghost use Rattle.asm_meaning.specs.Yields.{Gives, Exhausted};
 ghost use Rattle.asm_explore.specs.declared.outcomes.listed_outcome.RuleResult.TheVariants as answer;
 ghost use Rattle.asm_explore.specs.code.OverLimit.{IfTooMany};
-ghost use Rattle.asm_explore.specs.code.OutcomeLists.{Situation, HaveChoices, AreCounted, IsCounted, Lists};
-ghost use Rattle.asm_explore.specs.code.ChoicePaths.{LieBelow};
-ghost use Rattle.asm_explore.specs.code.Sequences.{BothHave, both_ways, Sorts, SortsAll, Underway, AddsOutcome, Exhausts};
-ghost use Rattle.asm_explore.specs.code.ChoiceLists.{choice_lists, AreSomeOf, behind};
+ghost use Rattle.asm_explore.specs.code.OutcomeLists.{AreCounted, IsCounted};
+ghost use Rattle.asm_explore.specs.code.Sequences.{both_ways, Sorts, SortsAll, AddsOutcome, Exhausts, EndsLists};
+ghost use Rattle.asm_explore.specs.code.ChoiceLists.{choice_lists, behind};
 
 use crate::outcomes::add_outcome::add_outcome;
 use crate::outcomes::list_error::ListError;
@@ -198,11 +195,7 @@ pub(crate) fn close(
     sorted: SequenceOutcomes,
     limit: usize,
 ) -> Result<Vec<ListedOutcome>, ListError>
-    ensures lists { (shape : Shape) (A : State) (total : Situation → Yielded) (left : Situation → State → Yielded) → ((s : Situation) (B : State) → left s B ≡ Gives none) →
-        Underway shape A total left sorted.done.items sorted.more.items → IfOk result (λ fs. Lists shape total fs.items) }
-    ensures placed { (p : yields.Path) → BothHave (LieBelow p) sorted → IfOk result (λ fs. HaveChoices (LieBelow p) fs.items) }
-    ensures chosen { IfOk result (λ fs. AreSomeOf (choice_lists fs.items) (both_ways sorted)) }
-    ensures crowd { IfErr result (IfTooMany (limit < length (both_ways sorted))) }
+    ensures { EndsLists (Gives none) limit sorted result }
 {
     let SequenceOutcomes { mut done, more } = sorted;
     add_each(alloc, more.as_slice(), limit, &mut done)?;
@@ -216,11 +209,7 @@ pub(crate) fn exhaust(
     path: &[u64],
     limit: usize,
 ) -> Result<Vec<ListedOutcome>, ListError>
-    ensures lists { (shape : Shape) (A : State) (total : Situation → Yielded) (left : Situation → State → Yielded) → ((s : Situation) (B : State) → left s B ≡ Exhausted path.now) →
-        Underway shape A total left sorted.done.items sorted.more.items → IfOk result (λ fs. Lists shape total fs.items) }
-    ensures placed { (p : yields.Path) → BothHave (LieBelow p) sorted → IfOk result (λ fs. HaveChoices (LieBelow p) fs.items) }
-    ensures chosen { IfOk result (λ fs. AreSomeOf (choice_lists fs.items) (both_ways sorted)) }
-    ensures crowd { IfErr result (IfTooMany (limit < length (both_ways sorted))) }
+    ensures { EndsLists (Exhausted path.now) limit sorted result }
 {
     let SequenceOutcomes { mut done, more } = sorted;
     exhaust_each(alloc, more.as_slice(), path, limit, &mut done)?;

@@ -8,11 +8,9 @@ ghost use Rattle.asm_explore.specs.code.WrittenScripts.{AreShort, AreSteps, IsTe
 
 use crate::scripts::script_line::{ScriptLine, Zeros};
 use crate::scripts::writing_error::WritingError;
+use asm_reader::MAX_SCRIPT;
 use asm_syntax::InputError;
 use std::alloc::Global;
-
-/// How many bytes a script may have.
-const MAX_SCRIPT: usize = 1_048_576;
 
 /// The least number with ten digits.
 const MIN_LONG_NUMBER: u64 = 1_000_000_000;

@@ -1,10 +1,10 @@
 //! Quiet states: the step from one changes nothing, whatever is chosen.
-ghost use Rattle.std.specs.Prelude.{◌≡◌, ◌<◌, ◌↔◌, [], IsTrue, IfOk, IfErr, IfSome, IfNone};
+ghost use Rattle.std.specs.Prelude.{◌≡◌, ◌<◌, ◌↔◌, [], IsTrue, IfOk, IfErr, IfSome};
 ghost use Rattle.asm_state.specs.code.Contents.{IsStateOf};
 ghost use Rattle.asm_state.specs.Signature.{state_of};
 ghost use Rattle.asm_explore.specs.declared.fault.Fault.TheVariants as fault;
 ghost use Rattle.asm_explore.specs.code.SearchEnds.{HaltsSo};
-ghost use Rattle.asm_explore.specs.code.QuietStates.{RestsSo};
+ghost use Rattle.asm_explore.specs.code.AddedNodes.{ListsQuiet};
 ghost use Rattle.asm_explore.specs.Search.{IsQuiet, IsDeadlock};
 ghost use Rattle.asm_explore.specs.code.StepOutcomes.{IsStep};
 
@@ -52,11 +52,9 @@ pub(crate) fn rest<M: Machine>(
     requires from { from < 4_294_967_296 }
     requires state { IsStateOf (M.shape machine.now) state.now }
     requires quiet { IsTrue is_quiet ↔ IsQuiet (M.specification machine.now) (M.turns machine.now) (state_of (M.shape machine.now) state.now) }
-    ensures rests { IfOk result (λ bad. IfNone bad (RestsSo (M.specification machine.now) (M.turns machine.now) (M.rests machine.now) (state_of (M.shape machine.now) state.now) from quiet.old.items quiet.new.items)) }
+    ensures quiet { ListsQuiet (M.specification machine.now) (M.turns machine.now) (M.rests machine.now) (state_of (M.shape machine.now) state.now) from quiet.old.items quiet.new.items result }
     ensures wrong { IfOk result (λ bad. IfSome bad (λ b. (b.from ≡ from) × (b.choices.items ≡ []) × (b.fault ≡ fault.Deadlock)
         × IsDeadlock (M.specification machine.now) (M.turns machine.now) (M.rests machine.now) (state_of (M.shape machine.now) state.now))) }
-    ensures listed { IfOk result (λ bad. IfSome bad (λ _. quiet.new.items ≡ quiet.old.items)) }
-    ensures unlisted { IfErr result (λ _. quiet.new.items ≡ quiet.old.items) }
     ensures never { IfErr result (HaltsSo ⊥ (λ _. ⊥)) }
 {
     if !is_quiet {

@@ -18,13 +18,14 @@ use Rattle.asm_meaning.specs.Value.{holds, candidates, nesting}
 use Rattle.asm_meaning.specs.Yields.{Path, at, Result, Gives, Exhausted, beside, all_beside, after, Yields, YieldsParts, YieldsInOrder, YieldsEach, YieldsTurns, skip, assign, call, par, seq, if_true, if_false, bind, forall, choose, if_none, iterate, no_part, part_then, end, faulty, exhausted, go_on, no_element, left_out, element_then, turn_limit, last_turn, exhausted_turn, turn_then}
 use Rattle.asm_reader.specs.ScriptLines.{Line, Script, pick}
 use Rattle.asm_meaning.specs.Does.{does, Outcome, Meaning, meaning, meanings, parts, in_order, part_and, turn_and, each, one_of, turns_of, called, nothing, does_within}
-use Rattle.asm_meaning.specs.Ranks.{CallsBelow, EachCallsBelow, IsRanked, lower}
+use Rattle.asm_meaning.specs.Ranks.{CallsBelow, EachCallsBelow, IsRanked}
 use Rattle.asm_meaning.specs.LawOfChoice.{FreeHasScript}
 use Rattle.asm_meaning.specs.Scripts.{unrepeated}
 use Rattle.asm_reader.specs.code.ExactLines.{exactly}
 use Rattle.asm_reader.proofs.ScriptLemmas.MoreLines.{pick_line}
 use Rattle.asm_meaning.proofs.ChoiceLemmas.UnrepeatedScripts.{unrepeated_script}
 use Rattle.asm_meaning.proofs.ChoiceLemmas.Scripts.{Scripts, ScriptsFrom, Choices, choice_at, itself, unscripted, join, single, skipped, whole, choosing}
+use Rattle.asm_meaning.proofs.CallsAndUses.{lower}
 
 -- a test of what doesn't hold
 pub not_true : (b : Bool) {P : Type 0} → Decides b P → ¬ P → b ≡ false

@@ -16,7 +16,8 @@ use Rattle.asm_meaning.specs.Yields.{Path, at, Result, Gives, Exhausted, beside,
 use Rattle.asm_reader.specs.ScriptLines.{pick}
 use Rattle.asm_meaning.specs.Does.{does, Outcome, Meaning, meaning, meanings, parts, in_order, part_and, turn_and, each, one_of, turns_of, called, does_within}
 use Rattle.asm_meaning.specs.LawOfChoice.{ScriptedIsFree}
-use Rattle.asm_meaning.specs.Ranks.{CallsBelow, EachCallsBelow, IsRanked, lower}
+use Rattle.asm_meaning.specs.Ranks.{CallsBelow, EachCallsBelow, IsRanked}
+use Rattle.asm_meaning.proofs.CallsAndUses.{lower}
 
 -- a turn ends the iteration if its set is empty or inconsistent
 ends : (U : UpdateSet) → (is_none U || not (is_consistent U)) ≡ true → (U ≡ none) ⊎ (¬ (IsConsistent U))

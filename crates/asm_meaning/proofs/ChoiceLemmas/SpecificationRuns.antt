@@ -7,11 +7,12 @@ use Rattle.asm_check.specs.Faults.{IsWellFormed, inits}
 use Rattle.asm_check.specs.Ranks.{derived_rank, rule_rank}
 use Rattle.asm_meaning.specs.Declarations.{main_rule, program_of, rule_body, specification_of}
 use Rattle.asm_meaning.specs.Program.{Declared, Controlled, Derived, Enumerated, NamedRule, Static, Universe, declared}
-use Rattle.asm_meaning.specs.Ranks.{CallsBelow, lower}
+use Rattle.asm_meaning.specs.Ranks.{CallsBelow}
 use Rattle.asm_meaning.specs.SpecificationLaw.{SpecificationsAreRanked, SpecificationRunsAreFree, SpecificationRunsHaveScripts}
 use Rattle.asm_meaning.specs.Value.{nesting}
 use Rattle.asm_meaning.proofs.RanksInPrograms.{declared_ranks-derived as ranked, declared_ranks-derived_low as rank_low, declared_ranks-rules as rules_ranked, declared_ranks-rule_low as rule_rank_low}
 use Rattle.asm_meaning.proofs.Run.{free_runs, scripted_runs}
+use Rattle.asm_meaning.proofs.CallsAndUses.{lower}
 
 module _ (spec : Spec) (good : IsWellFormed spec) where
   abbrev Below : Rule → Type 0

@@ -9,6 +9,7 @@
 --     Follows       what a call promises that forms an outcome, whether it ends, is exhausted or is
 --                   out of memory
 --     FollowsUpon   the same of a part of a sequence
+--     KeepsForming  what a call leaves as it was that joins the set of a part to those before it
 use Rattle.std.specs.Prelude.{◌≡◌, ℕ, ◌+◌, min, Result, OnOk, IfOk, IfErr}
 use Rattle.asm_state.specs.Signature.{Shape, count_of}
 use Rattle.asm_state.specs.Updates.{UpdateSet, IsConsistent, merge}
@@ -23,6 +24,7 @@ use Rattle.asm_meaning.specs.declared.outcome.Outcome.TheVariants.{Set, Exhauste
 use Rattle.asm_meaning.specs.declared.part_set.PartSet.{PartSet}
 use Rattle.asm_meaning.specs.declared.stopped.Stopped.{Stopped}
 use Rattle.asm_meaning.specs.declared.stopped.Stopped.TheVariants as stopped
+use Rattle.asm_meaning.specs.declared.stopped.Stopped.TheVariants.{Memory}
 
 -- the number of instances is cut off if it doesn't fit 64 bits
 abbrev pub greatest_count : ℕ
@@ -74,3 +76,12 @@ pub record FollowsUpon (shape : Shape) (o : UpdateSet → does.Outcome) (so_far 
   pub path : OnOk result (new.path.items ≡ old.path.items)
   pub formed : (U : UpdateSet) → Stands shape so_far U → IsConsistent U → IfOk result (λ part. IsMergedPart shape (o U) U joined part old.instances new.instances)
   pub exhausted : (U : UpdateSet) → Stands shape so_far U → IsConsistent U → IfErr result (IsStoppedAt (o U) new.path.items)
+
+-- what a call leaves as it was that joins the set of a part to those before it; it is refused for
+-- memory alone
+pub record KeepsForming {T : Type 0} (so_far joined : SummaryRanges) (old new : Forming) (result : Result T Stopped) : Type 0 where
+  pub count : new.set.count ≡ old.set.count
+  pub so_far_count : joined.count ≡ so_far.count
+  pub path : new.path.items ≡ old.path.items
+  pub instances : new.instances ≡ old.instances
+  pub stopped : IfErr result (λ stop. stop ≡ Memory)

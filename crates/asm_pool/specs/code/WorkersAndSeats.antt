@@ -6,7 +6,7 @@ use Rattle.asm_pool.specs.declared.worker.TaskRun.{TaskRun}
 use Rattle.asm_pool.specs.declared.worker.Worker.{Worker}
 use Rattle.asm_pool.specs.declared.lanes.Lanes.{Lanes}
 use Rattle.asm_pool.specs.declared.lanes.SeatView.{SeatView}
-use Rattle.asm_pool.specs.code.WorkDone.{tasks_of, tasks_by, done_by, HasDone, AllHaveDone}
+use Rattle.asm_pool.specs.code.WorkDone.{tasks_of, tasks_by, done_by, HasDone, AllHaveDone, HasEachOnce}
 use Rattle.asm_pool.specs.code.Lanes.{seat_view, tasks_in, past}
 use Rattle.asm_pool.specs.code.Pool.{IsRun}
 
@@ -44,6 +44,12 @@ pub record HaveWorked {Hand Out : Type 0} (takes : Hand → Type 0) (runs : ℕ 
   pub empty : seat.me.1 ≡ []
   pub fit : All (λ w. takes w.hand) workers
   pub worked : IsDoneByWorkers (IsRun takes runs) lanes.shape.lanes lanes.shape.count hands workers seat.me.0
+
+-- together the workers with these hands ran each task below the count once
+pub record HaveRunAll {Hand Out : Type 0} (takes : Hand → Type 0) (runs : ℕ → Hand → Out → Hand → Type 0) (count : ℕ) (given : List Hand) (workers : List (Worker Hand Out)) : Type 0 where
+  pub once : HasEachOnce count (tasks_by workers)
+  pub fit : All (λ w. takes w.hand) workers
+  pub hands : AllHaveDone (IsRun takes runs) given workers
 
 -- after the workers come others, which have done nothing
 pub record AddsIdle {Hand Out : Type 0} (hands : List Hand) (before after : List (Worker Hand Out)) : Type 0 where

@@ -5,8 +5,12 @@
 --                                                      this state
 --     GoesWrong .. right step A f                      the step from the state has this fault, or
 --                                                      leads to a state that isn't right
-use Rattle.std.specs.Prelude.{◌≡◌, ℕ, Bool, false, []}
+--     MakesStep .. right step shape old ended          the contents that the step leads to, or how
+--                                                      it goes wrong
+use Rattle.std.specs.Prelude.{◌≡◌, ℕ, Bool, false, List, [], length, Result as Returned, IfErr, IfOk}
+use Rattle.asm_state.specs.declared.value.Value.{Value}
 use Rattle.asm_state.specs.Location.{State}
+use Rattle.asm_state.specs.Signature.{Shape, count_of, state_of}
 use Rattle.asm_state.specs.Updates.{UpdateSet, IsConsistent, fire}
 use Rattle.asm_reader.specs.ScriptLines.{Script}
 use Rattle.asm_meaning.specs.Does.{does}
@@ -31,3 +35,9 @@ module _ (specification : Specification) (turns : ℕ) (script : Script) where
   GoesWrong right step A fault.Inconsistent = (U : UpdateSet) × (yields step A ≡ Gives U) × ¬ (IsConsistent U)
   GoesWrong right step A fault.Wrong = (B : State) × IsStep step A B × (right B ≡ false)
   GoesWrong right step A fault.Deadlock = ⊥
+
+  -- the step from a state with these contents
+  pub record MakesStep (right : State → Bool) (number : ℕ) (shape : Shape) (old : List Value) (ended : Returned (List Value) Fault) : Type 0 where
+    pub whole : IfOk ended (λ B. length B ≡ count_of shape)
+    pub step : IfOk ended (λ B. IsStep number (state_of shape old) (state_of shape B))
+    pub wrong : IfErr ended (GoesWrong right number (state_of shape old))

@@ -1,10 +1,12 @@
 -- Bridge to the code. What the functions of the code read as declarations and as whole
 -- specifications.
 use Rattle.std.specs.Prelude.{ℕ, true, false, List, [], ◌∷◌, length, Option, Some}
+use Rattle.asm_state.specs.declared.function.FunctionKind.{FunctionKind}
 use Rattle.asm_state.specs.declared.number.Number.{Number as WholeNumber}
 use Rattle.asm_syntax.specs.declared.token.Kind.{Kind}
 use Rattle.asm_syntax.specs.declared.token.Kind.TheVariants.{Number, Symbol, Keyword}
 use Rattle.asm_syntax.specs.declared.token.Symbol.TheVariants.{Open, Close, OpenBrace, CloseBrace, Comma, Colon, Equal, Minus, Times, Arrow, Dots}
+use Rattle.asm_syntax.specs.declared.token.Keyword.{Keyword as ReservedWord}
 use Rattle.asm_syntax.specs.declared.token.Keyword.TheVariants.{CoreAsm, Use, Init, Enum, Universe, Function, Initially, Derived, Rule}
 use Rattle.asm_syntax.specs.declared.term.Literal.TheVariants as literal
 use Rattle.asm_syntax.specs.SourceTree as source
@@ -22,6 +24,10 @@ item_starts = Keyword Use ∷ Keyword Init ∷ Keyword Enum ∷ Keyword Universe
 unfoldable pub int_at : Reader WholeNumber
 int_at = either_of (Symbol Minus ∷ []) (past_of (Symbol Minus) (number_at true)) (number_at false)
 
+-- the first and the last number of a universe
+abbrev pub range_at : Reader (WholeNumber × WholeNumber)
+range_at = pair_of int_at (past_of (Symbol Dots) int_at)
+
 module _ (text : List ℕ) where
   unfoldable pub constant_at : Reader source.Const
   constant_at = either_of (Symbol Minus ∷ Number 0 ∷ []) (mapped (λ n. source.Plain (literal.Number n)) int_at)
@@ -32,6 +38,16 @@ module _ (text : List ℕ) where
 
   abbrev pub names_at : Kind → Reader (List source.Name)
   names_at between = separated_of between (name_at text)
+
+  -- the name between a word and `=`, the one after `->`, and what is after `function`
+  abbrev pub titled_at : ReservedWord → Reader source.Name
+  titled_at word = braced_of (Keyword word) (Symbol Equal) (name_at text)
+
+  abbrev pub behind_arrow_at : Reader source.Name
+  behind_arrow_at = past_of (Symbol Arrow) (name_at text)
+
+  abbrev pub declared_at : Reader (FunctionKind × source.Name)
+  declared_at = past_of (Keyword Function) (pair_of (choice_at function_kinds) (name_at text))
 
   unfoldable pub codomain_at : Reader (Option source.Name)
   codomain_at = option_of (Symbol Arrow ∷ []) (past_of (Symbol Arrow) (name_at text))
@@ -78,6 +94,10 @@ module _ (text : List ℕ) where
     unfoldable pub parameters_at : Reader (List source.Name)
     parameters_at = mapped listed (option_of (Symbol Open ∷ []) (between_of n (Symbol Open) (Symbol Close) (names_at (Symbol Comma))))
 
+    -- a name and its parameters, between a word and `=`
+    abbrev pub heading_at : ReservedWord → Reader (source.Name × List source.Name)
+    heading_at word = braced_of (Keyword word) (Symbol Equal) (pair_of (name_at text) parameters_at)
+
     unfoldable pub function_at : Reader source.Item
     function_at = mapped (λ r. source.Function r.1.0 r.0 r.1.1.0.0 r.1.1.0.1 r.1.1.1)
         (past_of (Keyword Function) (pair_of (choice_at function_kinds) (pair_of (name_at text) (pair_of signature_at initially_at))))
@@ -91,6 +111,9 @@ module _ (text : List ℕ) where
     unfoldable pub item_at : Reader source.Item
     item_at = either_of (Keyword Use ∷ []) use_at (either_of (Keyword Init ∷ []) init_at (either_of (Keyword Enum ∷ []) enum_at (either_of (Keyword Universe ∷ []) universe_at
         (either_of (Keyword Function ∷ []) function_at (either_of (Keyword Derived ∷ []) derived_at rule_item_at)))))
+
+    abbrev pub items_at : Reader (List source.Item)
+    items_at = repeated_of item_starts item_at
 
     unfoldable pub specification_at : Reader source.Spec
     specification_at = mapped (λ r. record { name = r.0; items = r.1; length = length text }) (past_of (Keyword CoreAsm) (pair_of (name_at text) (repeated_of item_starts item_at)))

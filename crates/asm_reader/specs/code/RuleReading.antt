@@ -9,7 +9,7 @@ use Rattle.asm_syntax.specs.declared.token.Keyword.{Keyword as ReservedWord}
 use Rattle.asm_syntax.specs.declared.token.Keyword.TheVariants.{Skip, Par, EndPar, Seq, EndSeq, If, Then, Else, EndIf, Let, In, EndLet, Forall, With, Do, EndForall, Choose, IfNone, EndChoose, Iterate, EndIterate, While, EndWhile, Result}
 use Rattle.asm_syntax.specs.SourceTree as source
 use Rattle.asm_syntax.specs.code.Views.{rules_of}
-use Rattle.asm_reader.specs.code.Steps.{Reader, refuse, expect, pair_of, mapped, either_of, option_of, past_of, several_of, between_of}
+use Rattle.asm_reader.specs.code.Steps.{Reader, refuse, expect, below, pair_of, mapped, either_of, option_of, past_of, before_of, several_of, between_of}
 use Rattle.asm_reader.specs.RuleGrammar.{branch}
 use Rattle.asm_reader.specs.code.TermReading.{name_at, result_at, binding_at, applied_at, disjunction_at, term_at}
 
@@ -92,3 +92,69 @@ module _ (text : List ℕ) where
   unfoldable pub rule_at : ℕ → Reader source.Rule
   rule_at zero = rule_over_at text zero refuse refuse
   rule_at (suc n) = rule_over_at text (suc n) (term_at text n) (rule_at n)
+
+  -- parts of rules in which n levels may open: rules, a term or a rule before a word, a rule after a
+  -- word that may be missing, and the same before another word
+  abbrev pub rules_at : ℕ → Reader (List source.Rule)
+  rules_at n = several_of rule_starts (rule_at n)
+
+  abbrev pub term_before_at : ℕ → ReservedWord → Reader source.Term
+  term_before_at n word = before_of (Keyword word) (term_at text n)
+
+  abbrev pub body_at : ℕ → ReservedWord → Reader source.Rule
+  body_at n end = before_of (Keyword end) (rule_at n)
+
+  abbrev pub rule_behind_at : ℕ → ReservedWord → Reader (Option source.Rule)
+  rule_behind_at n word = branch_at word (rule_at n)
+
+  abbrev pub last_branch_at : ℕ → (word end : ReservedWord) → Reader (Option source.Rule)
+  last_branch_at n word end = before_of (Keyword end) (rule_behind_at n word)
+
+-- the same, with the readers of what comes after one of n levels
+module _ (text : List ℕ) (n : ℕ) where
+  abbrev pub value_in : Reader source.Term
+  value_in = value_at text n (below (term_at text) n) (below (rule_at text) n)
+
+  abbrev pub called_in : Reader Applied
+  called_in = called_at text n (below (term_at text) n) (below (rule_at text) n)
+
+  abbrev pub named_rule_in : Reader source.Rule
+  named_rule_in = named_rule_at text n (below (term_at text) n) (below (rule_at text) n)
+
+  abbrev pub result_rule_in : Reader source.Rule
+  result_rule_in = result_rule_at text n (below (term_at text) n) (below (rule_at text) n)
+
+  abbrev pub par_in : Reader source.Rule
+  par_in = par_at text n (below (term_at text) n) (below (rule_at text) n)
+
+  abbrev pub seq_in : Reader source.Rule
+  seq_in = seq_at text n (below (term_at text) n) (below (rule_at text) n)
+
+  abbrev pub if_in : Reader source.Rule
+  if_in = if_at text n (below (term_at text) n) (below (rule_at text) n)
+
+  abbrev pub let_in : Reader source.Rule
+  let_in = let_at text n (below (term_at text) n) (below (rule_at text) n)
+
+  abbrev pub forall_in : Reader source.Rule
+  forall_in = forall_at text n (below (term_at text) n) (below (rule_at text) n)
+
+  abbrev pub choose_in : Reader source.Rule
+  choose_in = choose_at text n (below (term_at text) n) (below (rule_at text) n)
+
+  abbrev pub iterate_in : Reader source.Rule
+  iterate_in = iterate_at text n (below (term_at text) n) (below (rule_at text) n)
+
+  abbrev pub while_in : Reader source.Rule
+  while_in = while_at text n (below (term_at text) n) (below (rule_at text) n)
+
+  abbrev pub block_in : Reader source.Rule
+  block_in = block_at text n (below (term_at text) n) (below (rule_at text) n)
+
+  -- a binding and maybe a condition, between a word and `do`
+  abbrev pub ranged_in : ReservedWord → Reader ((source.Name × source.Name) × Option source.Term)
+  ranged_in word = between_of n (Keyword word) (Keyword Do) (pair_of (binding_at text) (condition_at (below (term_at text) n)))
+
+  -- the name between `let` and `=`
+  abbrev pub let_name_in : Reader source.Name
+  let_name_in = between_of n (Keyword Let) (Symbol Equal) (name_at text)

@@ -1,6 +1,6 @@
 -- Bridge to the code. What the functions of the code read as terms: the productions, with the next
 -- token to choose by.
-use Rattle.std.specs.Prelude.{ℕ, zero, suc, false, List, [], ◌∷◌, ◌++◌, option_to_list}
+use Rattle.std.specs.Prelude.{ℕ, zero, suc, false, List, [], ◌∷◌, ◌++◌, Ok, option_to_list}
 use Rattle.asm_state.specs.declared.operation.Op.{Op}
 use Rattle.asm_syntax.specs.declared.token.Kind.{Kind}
 use Rattle.asm_syntax.specs.declared.token.Kind.TheVariants as kind
@@ -14,7 +14,7 @@ use Rattle.asm_syntax.specs.code.Views.{terms_of}
 use Rattle.asm_reader.specs.declared.terms.Precedence.{Precedence}
 use Rattle.asm_reader.specs.declared.terms.Precedence.TheVariants as precedence
 use Rattle.asm_reader.specs.Kinds.{keys}
-use Rattle.asm_reader.specs.code.Steps.{ReaderResult, Reader, and_then, refuse, expect, pair_of, mapped, either_of, option_of, repeated_of, number_at, choice_at, past_of, separated_of, between_of}
+use Rattle.asm_reader.specs.code.Steps.{ReaderResult, Reader, and_then, refuse, expect, below, pair_of, mapped, either_of, option_of, repeated_of, number_at, choice_at, past_of, separated_of, between_of, braced_of}
 use Rattle.asm_reader.specs.TermGrammar.{name_at_token, chain_of, listed, constants, disjunctions, conjunctions, comparisons, additions, products}
 
 abbrev pub chain_at : List (Kind × Op) → Reader source.Term → Reader source.Term
@@ -48,6 +48,10 @@ module _ (text : List ℕ) where
 
   unfoldable pub binding_at : Reader (source.Name × source.Name)
   binding_at = pair_of name_at (past_of (Keyword In) name_at)
+
+  -- a binding between two words
+  abbrev pub quantifier_at : (first second : ReservedWord) → Reader (source.Name × source.Name)
+  quantifier_at first second = braced_of (Keyword first) (Keyword second) binding_at
 
   -- what is in parentheses
   module _ (deeper : Reader source.Term) where
@@ -132,5 +136,72 @@ module _ (text : List ℕ) where
   term_at zero = disjunction_at zero refuse
   term_at (suc n) = disjunction_at (suc n) (term_at n)
 
+  -- a term after a comma
+  abbrev pub next_term_at : ℕ → Reader source.Term
+  next_term_at n = past_of (Symbol Comma) (term_at n)
+
   abbrev pub terms_at : ℕ → Reader (List source.Term)
   terms_at n = separated_of (Symbol Comma) (term_at n)
+
+  -- the same, with the reader of what comes after one of n levels
+  module _ (n : ℕ) where
+    abbrev pub arguments_in : Reader (List source.Term)
+    arguments_in = arguments_at n (below term_at n)
+
+    abbrev pub applied_in : Reader (source.Name × source.Terms)
+    applied_in = applied_at n (below term_at n)
+
+    abbrev pub parenthesized_in : Reader source.Term
+    parenthesized_in = parenthesized_at n (below term_at n)
+
+    abbrev pub primary_in : Reader source.Term
+    primary_in = primary_at n (below term_at n)
+
+    abbrev pub factor_in : Reader source.Term
+    factor_in = factor_at n (below term_at n)
+
+    abbrev pub sum_in : Reader source.Term
+    sum_in = sum_at n (below term_at n)
+
+    abbrev pub other_side_in : Reader (Op × source.Term)
+    other_side_in = pair_of (choice_at comparisons) sum_in
+
+    abbrev pub comparison_in : Reader source.Term
+    comparison_in = comparison_at n (below term_at n)
+
+    abbrev pub negation_in : Reader source.Term
+    negation_in = negation_at n (below term_at n)
+
+    abbrev pub operand_in : Precedence → Reader source.Term
+    operand_in = operand_at n (below term_at n)
+
+    abbrev pub link_in : Precedence → Reader (Op × source.Term)
+    link_in = link_at n (below term_at n)
+
+    abbrev pub links_in : Precedence → Reader (List (Op × source.Term))
+    links_in c = repeated_of (keys (table_of c)) (link_in c)
+
+    abbrev pub chain_in : Precedence → Reader source.Term
+    chain_in = chain_of_at n (below term_at n)
+
+    abbrev pub chain_from_in : Precedence → source.Term → Reader source.Term
+    chain_from_in = chain_from_at n (below term_at n)
+
+    abbrev pub compared_in : source.Term → Reader source.Term
+    compared_in = compared_at n (below term_at n)
+
+    abbrev pub carried_on_in : source.Term → Reader source.Term
+    carried_on_in factor ts = carried_on n (below term_at n) (Ok (factor, ts))
+
+    -- what is in parentheses, in which n levels may open
+    abbrev pub quantified_in : (first second : ReservedWord) → Reader ((source.Name × source.Name) × source.Term)
+    quantified_in = quantified_at (term_at n)
+
+    abbrev pub exists_in : Reader source.Term
+    exists_in = exists_at (term_at n)
+
+    abbrev pub every_in : Reader source.Term
+    every_in = every_at (term_at n)
+
+    abbrev pub inner_in : Reader source.Term
+    inner_in = inner_at (term_at n)

@@ -17,10 +17,11 @@
 --     IsLeft cut out               new pieces are pieces and are cut, and come of a cut alone
 --     is_opened                    whether a task opens its piece
 --     IsTaskRun, RunsPiece         what the run of a task returns, and what it puts
+--     LeavesWhole                  the same of a task that works its piece whole
 --     IsTask                       the tasks of a round are numbered as its pieces are
 --     IsRound                      what was held, with what the pieces do, is what is held after
 --                                  the round, with what the new pieces do
-use Rattle.std.specs.Prelude.{◌≡◌, ℕ, ◌+◌, ◌<◌, nat_le, Bool, true, false, ◌&&◌, not, List, [], ◌∷◌, ◌++◌, Option, Some, None, IfSome, MatchOption, All, min, length, map, slice_get, Result, Ok, Err}
+use Rattle.std.specs.Prelude.{◌≡◌, ℕ, ◌+◌, ◌<◌, nat_le, Bool, true, false, ◌&&◌, not, List, [], ◌∷◌, ◌++◌, Option, Some, None, IfSome, IfOk, IfErr, MatchOption, All, min, length, map, slice_get, Result, Ok, Err}
 use Rattle.std.specs.declared.alloc.AllocError.{AllocError}
 use Rattle.asm_state.specs.Signature.{Shape}
 use Rattle.asm_state.specs.Updates.{UpdateSet, none}
@@ -151,6 +152,11 @@ module _ {P : Type 0} {picks : Ghosts P} (evaluation : Evaluation P picks) where
 
       abbrev pub RunsPiece : (are_enough : Bool) → List Piece → ℕ → RegionHand → TaskResult → RegionHand → Type 0
       RunsPiece are_enough pieces n before out after = (piece : Piece) → slice_get pieces n ≡ Some piece → Leaves are_enough piece n before out after
+
+    -- what a task leaves that works its piece whole
+    pub record LeavesWhole (n : ℕ) (o : Outcome) (before after : SeatState) (result : TaskResult) : Type 0 where
+      pub worked : IfOk result (λ out. IsTaskRun None n o before out after)
+      pub refused : IfErr result (λ _. LogGrows before [] after)
 
 -- a cut is from 1
 pub record IsTask (shape : Shape) (cut : Option ℕ) (pieces : List Piece) (n : ℕ) : Type 0 where

@@ -1,6 +1,6 @@
 -- Bridge to the code. How far a run has come.
 --     IsReached     these steps of a run are fired and written, and the rest of it is left
---     Runs          what a run does to the bytes of a sink
+--     RunsSteps     what the steps of a run do to the bytes of a sink
 --     GoesOnFrom    what stays true from step to step
 use Rattle.std.specs.Prelude.{◌≡◌, ℕ, ◌+◌, ◌-◌, Bool, true, false, List, ◌++◌, length, Option, Result, Ok, Err}
 use Rattle.std.specs.Io.KnownBytes.{Appends}
@@ -30,14 +30,14 @@ pub record IsReached (names : TraceNames) (ls : List Location) (total : Run) (i 
   pub last : total.last ≡ rest.last
   pub written : Appends old new (steps_text names ls 1 done)
 
-abbrev pub Runs : TraceNames → List Location → Option (List ℕ) → Option (List ℕ) → (failed : Bool) → Run → Result End RunError → Type 0
-Runs names ls old new failed r (Ok e) = IsWritten names ls 1 old new r × IsReturned r.end e × (failed ≡ false)
-Runs names ls old new failed r (Err error.Memory) = AreWholeSteps names ls 1 old new r × (failed ≡ false)
-Runs names ls old new failed r (Err error.Write) = IsCut names ls 1 old new r × (failed ≡ true)
-Runs names ls old new failed r (Err error.Limits) = ⊥
-Runs names ls old new failed r (Err (error.Read refusal)) = ⊥
-Runs names ls old new failed r (Err (error.Check refusal)) = ⊥
-Runs names ls old new failed r (Err (error.Script refusal)) = ⊥
+abbrev pub RunsSteps : TraceNames → List Location → Option (List ℕ) → Option (List ℕ) → (failed : Bool) → Run → Result End RunError → Type 0
+RunsSteps names ls old new failed r (Ok e) = IsWritten names ls 1 old new r × IsReturned r.end e × (failed ≡ false)
+RunsSteps names ls old new failed r (Err error.Memory) = AreWholeSteps names ls 1 old new r × (failed ≡ false)
+RunsSteps names ls old new failed r (Err error.Write) = IsCut names ls 1 old new r × (failed ≡ true)
+RunsSteps names ls old new failed r (Err error.Limits) = ⊥
+RunsSteps names ls old new failed r (Err (error.Read refusal)) = ⊥
+RunsSteps names ls old new failed r (Err (error.Check refusal)) = ⊥
+RunsSteps names ls old new failed r (Err (error.Script refusal)) = ⊥
 
 -- What stays true from step to step, when `made` of `steps` steps were made.
 pub record GoesOnFrom (s : Spec) (turns : ℕ) (script : Script) (steps made : ℕ) (contents : List Value) (count : ℕ) (old new : Option (List ℕ)) (failed : Bool) : Type 0 where

@@ -6,7 +6,7 @@ ghost use Rattle.asm_check.specs.Shapes.{shape_of};
 use asm_check::Checked;
 use asm_eval::evaluation::Evaluation;
 use asm_eval::frame::Frame;
-use asm_limits::run_limits::Limits;
+use asm_limits::run_limits::{DEFAULTS, Limits};
 use asm_meaning::{Choices, Outcome, View};
 use asm_pool::NoGate;
 use asm_resolve::main_rule::resolve_main;
@@ -26,6 +26,7 @@ static CUTTINGS: [Limits; 3] = [
         workers: 2,
         cut: 1,
         rounds: 1,
+        ..DEFAULTS
     },
     Limits {
         steps: 1,
@@ -33,6 +34,7 @@ static CUTTINGS: [Limits; 3] = [
         workers: 3,
         cut: 2,
         rounds: 3,
+        ..DEFAULTS
     },
     Limits {
         steps: 1,
@@ -40,6 +42,7 @@ static CUTTINGS: [Limits; 3] = [
         workers: 32,
         cut: 1,
         rounds: 64,
+        ..DEFAULTS
     },
 ];
 

@@ -8,7 +8,7 @@ use super::meetings::Meeting;
 use asm_check::Checked;
 use asm_eval::evaluation::Evaluation;
 use asm_eval::frame::Frame;
-use asm_limits::run_limits::Limits;
+use asm_limits::run_limits::{DEFAULTS, Limits};
 use asm_meaning::{Choices, Outcome, View};
 use asm_pool::NoGate;
 use asm_reader::Picks;
@@ -51,10 +51,9 @@ rule M = par choose k in Color do c := k endchoose choose k in Color do d := k e
 
 const LIMITS: Limits = Limits {
     steps: 1,
-    turns: 1000,
     workers: 2,
-    cut: 64,
     rounds: 1,
+    ..DEFAULTS
 };
 
 /// What the main rule yields in what the view shows, its regions worked by two workers.

@@ -1,5 +1,5 @@
 //! Worked rows at many numbers of workers, cuts and rounds.
-use asm_limits::run_limits::Limits;
+use asm_limits::run_limits::{DEFAULTS, Limits};
 use asm_run::end::End;
 use asm_run::error::RunError;
 use asm_run::run::run;
@@ -64,6 +64,7 @@ fn is_shown<R: Threads + Sync + AllocGlobal>(
         workers,
         cut,
         rounds,
+        ..DEFAULTS
     };
     let mut out = Through::new(Vec::new(rt.alloc()));
     let end = run(rt, rt.alloc(), row.text, row.script, &limits, &mut out)?;

@@ -1,5 +1,5 @@
 //! Two workers make one step of a run.
-use asm_limits::run_limits::Limits;
+use asm_limits::run_limits::{DEFAULTS, Limits};
 use asm_pool::Gate;
 use asm_run::end::End;
 use asm_run::error::RunError;
@@ -95,20 +95,15 @@ endforall\n";
 const DONE: &[u8] = b"step 1 instances 1000\na := 1\nend limit\nstate\na = 1\n";
 
 const ONE_ROUND: Limits = Limits {
-    steps: 1,
-    turns: 1000,
-    workers: 2,
-    cut: 64,
     rounds: 1,
+    ..DEFAULT
 };
 
 /// Two workers, and what else the program takes if no word says it.
 const DEFAULT: Limits = Limits {
     steps: 1,
-    turns: 1000,
     workers: 2,
-    cut: 64,
-    rounds: 4,
+    ..DEFAULTS
 };
 
 /// Whether two workers make the step at the same time, by `tasks` tasks, and the run ends so with

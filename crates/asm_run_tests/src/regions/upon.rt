@@ -7,7 +7,7 @@ ghost use Rattle.asm_check.specs.Shapes.{shape_of};
 use asm_check::Checked;
 use asm_eval::evaluation::Evaluation;
 use asm_eval::frame::Frame;
-use asm_limits::run_limits::Limits;
+use asm_limits::run_limits::{DEFAULTS, Limits};
 use asm_meaning::{Choices, Forming, Stopped, View};
 use asm_pool::NoGate;
 use asm_resolve::main_rule::resolve_main;
@@ -25,6 +25,7 @@ const LIMITS: Limits = Limits {
     workers: 2,
     cut: 1,
     rounds: 1,
+    ..DEFAULTS
 };
 
 /// Two locations, one of which the region names too.

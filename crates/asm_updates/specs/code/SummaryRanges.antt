@@ -2,7 +2,8 @@
 --     SummaryRanges       the named locations, each with its least and its greatest value, and
 --                         whether one may be faulty
 --     summary_range s n   the range of the values at location n, if it is named
-use Rattle.std.specs.Prelude.{ℕ, Bool, false, ◌<◌, ◌≤◌, ◌==◌, if◌then◌else◌, nat_eq, List, [], ◌∷◌, Option, Some, None, All}
+--     Changes             what a call promises that changes the ranges of a summary
+use Rattle.std.specs.Prelude.{◌≡◌, ℕ, Bool, false, ◌<◌, ◌≤◌, ◌==◌, if◌then◌else◌, nat_eq, List, [], ◌∷◌, Option, Some, None, All, Result, OnOk, OnErr}
 use Rattle.std.specs.List.{IsDistinct}
 use Rattle.std.specs.Map.{keys_of}
 use Rattle.asm_state.specs.declared.value.Value.{Value}
@@ -40,3 +41,9 @@ pub record AreRanges (count : ℕ) (es : NamedRanges) : Type 0 where
   pub unique : IsDistinct nat_eq (keys_of es)
   pub in_range : All (λ e. e.0 < count) es
   pub ordered : All (λ e. code_of e.1.0 ≤ code_of e.1.1) es
+
+-- what a call promises that gives a summary this range at each location
+pub record Changes {T E : Type 0} (old new : SummaryRanges) (changed : ℕ → Option Range) (result : Result T E) : Type 0 where
+  pub count : new.count ≡ old.count
+  pub entries : OnOk result ((k : ℕ) → summary_range new k ≡ changed k)
+  pub err : OnErr result (new ≡ old)

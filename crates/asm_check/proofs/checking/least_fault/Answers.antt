@@ -6,5 +6,6 @@ use Rattle.asm_check.proofs.checking.least_fault.Goals as goal
 
 pub returns : goal.returns
 returns c =
-    search_ends (spec_of c.args.spec.now) None _ _ _ _ _ _ _ refl c.requires.twice c.note_inits.ensures c.note_main_rules_with_result.ensures c.in_ok-note_uses.ensures
+    search_ends (spec_of c.args.spec.now) None _ _ _ _ _ _ _ refl c.requires.twice c.note_inits.ensures c.note_main_rules_with_result.ensures
+    (c.note_uses.ensures (spec_of c.args.spec.now) c.requires.table c.requires.uses)
     c.in_ok-note_limits.ensures c.in_ok-note_entries.ensures c.in_ok-note_steps.ensures

@@ -19,8 +19,8 @@ pub record AreStepsOf (spec : Spec) (entries : List Entry) (lists : List (List �
 
 -- the number of a cycle's fault
 abbrev pub cycle_number : DeclaredAs → Option ℕ
-cycle_number (code.Rule xs P) = Some 12
-cycle_number (code.Derived xs t) = Some 13
+cycle_number (code.Rule body) = Some 12
+cycle_number (code.Derived body) = Some 13
 cycle_number m = None
 
 module _ (lists : List (List ℕ)) (n : ℕ) where

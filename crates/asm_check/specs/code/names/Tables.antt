@@ -20,8 +20,8 @@ declared_as_view (code.Enumeration k) = names.Enumeration k
 declared_as_view (code.Element k) = names.Element k
 declared_as_view (code.Controlled domain) = names.Controlled (map name_of domain.now)
 declared_as_view (code.Static domain) = names.Static (map name_of domain.now)
-declared_as_view (code.Derived xs t) = names.Derived (map name_of xs.now) (term_of t.now)
-declared_as_view (code.Rule xs P) = names.NamedRule (map name_of xs.now) (rule_of P.now)
+declared_as_view (code.Derived body) = names.Derived (map name_of body.parameters.now) (term_of body.term.now)
+declared_as_view (code.Rule body) = names.NamedRule (map name_of body.parameters.now) (rule_of body.rule.now)
 
 abbrev pub Entry : Type 0
 Entry = Bor (List ℕ) × CodeDeclaration

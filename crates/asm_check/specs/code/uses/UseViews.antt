@@ -1,4 +1,8 @@
 -- Bridge to the code. Uses of names, as the code keeps them.
+--     AreUsesOf items lists    the lists are the uses of these items, each collected once
+use Rattle.std.specs.Prelude.{◌≡◌, List, map}
+use Rattle.std.proofs.Common.{Vec, Global}
+use Rattle.asm_syntax.specs.SourceTree.{Item}
 use Rattle.asm_syntax.specs.code.Views.{name_of}
 use Rattle.asm_check.specs.Names as names
 use Rattle.asm_check.specs.declared.uses.declaration_uses.Role.{Role}
@@ -17,3 +21,9 @@ role_of code.AsResult = names.AsResult
 
 abbrev pub use_of : Use → names.Use
 use_of u = record { role = role_of u.role; name = name_of u.name.now; count = u.count; is_bound = u.is_bound }
+
+abbrev pub uses_in : Vec Use Global → List names.Use
+uses_in v = map use_of v.items
+
+abbrev pub AreUsesOf : List Item → List (Vec Use Global) → Type 0
+AreUsesOf items lists = map uses_in lists ≡ map names.uses_of items

@@ -310,16 +310,16 @@ form_next-returns-in-Update-clause-formed g t c =
     let r = a.evaluation.now in
     let shape = evaluation_shape r in
     record {
-      count = c.merge_update.ensures.count;
+      count = c.merge_update.ensures.keeps.count;
       so_far_count = search rules;
       path = search rules;
       formed = λ U stands consistent.
           goes_by_one shape _ U (one (location_at shape c.in-Update.n) c.in-Update.value) c.merge_update.new.so_far a.forming.now.instances c.merge_update.new.forming.instances c.merge_update.result
           (single_upon r c.upon-view.result a.frame.now (rule_of a.rule.now) (at a.forming.now.path.items a.number) c.upon-view.ensures.signature
           c.in_ok-single_update.field-0 (single.Update c.in-Update.n c.in-Update.value) U c.in-Update.is (c.upon-view.ensures.fired U stands consistent) c.in_ok-single_update.ensures).1
-          (omega (arith, a.forming.now.in_range)) c.merge_update.ensures.instances c.merge_update.ensures.part
+          (omega (arith, a.forming.now.in_range)) c.merge_update.ensures.keeps.instances c.merge_update.ensures.part
           (on_ok_weaker c.merge_update.result (λ merges. merges U stands) c.merge_update.ensures.merge);
-      exhausted = λ U stands consistent. stopped_for_memory (rule_upon r U a.frame.now (at a.forming.now.path.items a.number) (rule_of a.rule.now)) _ c.merge_update.result c.merge_update.ensures.stopped;
+      exhausted = λ U stands consistent. stopped_for_memory (rule_upon r U a.frame.now (at a.forming.now.path.items a.number) (rule_of a.rule.now)) _ c.merge_update.result c.merge_update.ensures.keeps.stopped;
     }
 
 pub form_upon-returns-clause-formed : goal.form_upon-returns-clause-formed
@@ -333,7 +333,7 @@ form_upon-returns-clause-formed g t c =
       path = search rules;
       formed = λ U stands consistent.
           let v = c.upon-view.result in
-          subst (λ n. IsMergedPart shape (rule_upon r U a.frame.now (at a.forming.now.path.items a.number) (rule_of a.rule.now)) U c.merge_part.new.so_far c.of-part.result a.forming.now.instances n) (sym c.merge_part.ensures.instances)
+          subst (λ n. IsMergedPart shape (rule_upon r U a.frame.now (at a.forming.now.path.items a.number) (rule_of a.rule.now)) U c.merge_part.new.so_far c.of-part.result a.forming.now.instances n) (sym c.merge_part.ensures.keeps.instances)
           (goes_upon shape _ U c.clear.new.self a.so_far.now c.merge_part.new.so_far c.form_part.new.forming.set c.of-part.result a.forming.now.instances c.form_part.new.forming.instances
           (c.clear.ensures.empty shape r.view.now.sound c.requires.fits)
           stands

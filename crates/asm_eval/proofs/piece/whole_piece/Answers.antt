@@ -12,7 +12,7 @@ returns g c =
     let o = piece_yields a.evaluation.now a.piece.now in
     let begun = c.in_ok-forming.ensures in
     let made = c.form_piece-formed.new.forming in
-    c.outcome_of.ensures shape o
+    c.into_outcome.ensures shape o
     (on_ok_weaker c.form_piece-formed.result
     (λ formed. formed_from_nothing shape o c.in_ok-forming.forming.set made.set c.in_ok-forming.forming.instances made.instances begun.set begun.instances (c.form_piece-formed.ensures.count ∙ begun.count) formed)
     c.form_piece-formed.ensures.formed)

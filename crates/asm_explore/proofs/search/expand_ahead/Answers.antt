@@ -1,4 +1,4 @@
-use Rattle.std.proofs.Common.{◌≡◌, ◌+◌, ◌≤◌, ◌∙◌, [], length, ap, sym, subst, arith}
+use Rattle.std.proofs.Common.{◌≡◌, ◌+◌, [], rules, ap, sym, subst, arith}
 use Rattle.asm_state.specs.code.Contents.{IsStateOf}
 use Rattle.asm_state.specs.Signature.{state_of}
 use Rattle.asm_explore.specs.code.StepsAhead.{IsAhead, IsFound}
@@ -6,35 +6,29 @@ use Rattle.asm_explore.specs.declared.search_result.BadStep.{BadStep}
 use Rattle.asm_explore.specs.declared.fault.Fault.TheVariants as fault
 use Rattle.asm_explore.specs.code.PackedNodes.{Node}
 use Rattle.asm_explore.specs.code.OutcomeLists.{Each}
-use Rattle.asm_explore.specs.code.ReachedStates.{Extends, GoesWrong, IsBadStep, IsGood, Known, steps_from, state_at}
+use Rattle.asm_explore.specs.code.ReachedStates.{GoesWrong, IsBadStep, Known, steps_from, state_at}
 use Rattle.asm_explore.specs.Search.{IsDeadlock}
 use Rattle.asm_explore.proofs.SearchEnds.{found_weaker, none_any, none_weaker}
 use Rattle.asm_explore.proofs.OutcomeLemmas.ListLemmas.{each_weaker}
 use Rattle.asm_explore.proofs.LookedAhead.{ahead_expands, found_led}
-use Rattle.asm_explore.proofs.StateLemmas.MoreNodes.{at_less, at_more, bad_step_less, begun_both, each_got, extends_both, shallow_more, some_at}
+use Rattle.asm_explore.proofs.StateLemmas.AddedNodes.{can_add, can_again, deeper_extends, kept_state, stopped_expands}
+use Rattle.asm_explore.proofs.StateLemmas.MoreNodes.{at_more, bad_step_less, begun_both, extends_both, some_at}
 use Rattle.asm_explore.proofs.search.expand_ahead.Goals as goal
 
 pub overflow_add-below : goal.overflow_add-below
 overflow_add-below g c =
-    let n = some_at c.args.nodes.now c.args.from c.requires.from in
-    omega (arith, c.requires.shallow n.0 n.1, c.depth-below.ensures n.0 n.1)
+    let n = some_at c.args.nodes.now c.args.from c.requires.ready.from in
+    omega (arith, c.requires.ready.shallow n.0 n.1, c.depth-below.ensures n.0 n.1)
 
 pub reach_all-requires-clause-like : goal.reach_all-requires-clause-like
 reach_all-requires-clause-like g c =
     let a = c.args in
-    let shape = g.M.Machine.shape a.machine.now in
-    let specification = g.M.Machine.specification a.machine.now in
-    let turns = g.M.Machine.turns a.machine.now in
-    let right = g.M.Machine.right a.machine.now in
-    let n = some_at a.nodes.now a.from c.requires.from in
-    let good = each_got (IsGood shape right) a.nodes.now a.from n.0 c.requires.nodes n.1 in
-    ap length (sym (c.requires.here n.0 n.1)) ∙ good.kept.whole
+    (kept_state (g.M.Machine.shape a.machine.now) (g.M.Machine.right a.machine.now) a.from a.limit a.state.now a.nodes.now c.requires.ready).whole
 
-pub reach_all-requires-clause-near : goal.reach_all-requires-clause-near
-reach_all-requires-clause-near g c =
+pub reach_all-requires-clause-ready : goal.reach_all-requires-clause-ready
+reach_all-requires-clause-ready g c =
     let a = c.args in
-    let n = some_at a.nodes.now a.from c.requires.from in
-    subst (λ d. Each (λ (m : Node). m.depth ≤ d + 1) a.nodes.now) (sym (c.depth-below.ensures n.0 n.1)) (c.requires.near n.0 n.1)
+    can_add (g.M.Machine.shape a.machine.now) (g.M.Machine.right a.machine.now) a.from a.limit a.state.now a.nodes.now c.requires.ready c.depth-below.result c.depth-below.ensures
 
 pub reach_all-requires-clause-kept : goal.reach_all-requires-clause-kept
 reach_all-requires-clause-kept g c =
@@ -53,18 +47,34 @@ reach_all-requires-clause-leads g c =
     let turns = g.M.Machine.turns a.machine.now in
     let right = g.M.Machine.right a.machine.now in
     found_led shape specification turns a.nodes.now a.from (c.depth-below.result + 1) (state_of shape a.state.now)
-    (λ n there. (ap (λ d. d + 1) (c.depth-below.ensures n there), ap (state_of shape) (c.requires.here n there))) a.ahead.now.states c.requires.ahead.found
+    (λ n there. (ap (λ d. d + 1) (c.depth-below.ensures n there), ap (state_of shape) (c.requires.ready.here n there))) a.ahead.now.states c.requires.ahead.found
 
 pub rest-requires-clause-state : goal.rest-requires-clause-state
 rest-requires-clause-state g c =
     let a = c.args in
-    let shape = g.M.Machine.shape a.machine.now in
-    let n = some_at a.nodes.now a.from c.requires.from in
-    let good = each_got (IsGood shape (g.M.Machine.right a.machine.now)) a.nodes.now a.from n.0 c.requires.nodes n.1 in
-    subst (IsStateOf shape) (c.requires.here n.0 n.1) good.kept
+    kept_state (g.M.Machine.shape a.machine.now) (g.M.Machine.right a.machine.now) a.from a.limit a.state.now a.nodes.now c.requires.ready
 
-pub expand_listed-requires-clause-shallow : goal.expand_listed-requires-clause-shallow
-expand_listed-requires-clause-shallow g c = λ n there.
+pub expand_listed-requires-clause-ready : goal.expand_listed-requires-clause-ready
+expand_listed-requires-clause-ready g c =
+    let a = c.args in
+    let shape = g.M.Machine.shape a.machine.now in
+    let specification = g.M.Machine.specification a.machine.now in
+    let turns = g.M.Machine.turns a.machine.now in
+    let right = g.M.Machine.right a.machine.now in
+    can_again shape specification turns right a.from a.limit c.depth-below.result a.state.now a.nodes.now c.reach_all.new.nodes c.in_ok-reach_all.ensures.adds.extends c.in_ok-reach_all.ensures.adds.room c.depth-below.ensures c.requires.ready
+
+pub returns-in_err-reach_all-clause-expands : goal.returns-in_err-reach_all-clause-expands
+returns-in_err-reach_all-clause-expands g c =
+    let a = c.args in
+    let shape = g.M.Machine.shape a.machine.now in
+    let specification = g.M.Machine.specification a.machine.now in
+    let turns = g.M.Machine.turns a.machine.now in
+    let right = g.M.Machine.right a.machine.now in
+    stopped_expands shape specification turns right a.from a.limit c.depth-below.result a.nodes.now c.reach_all.new.nodes c.depth-below.ensures (g.M.Machine.rests a.machine.now) _ c.reach_all.result c.reach_all.ensures.adds
+    c.from_residual.result c.in_err-reach_all.field-0.0 c.in_err-reach_all.was c.from_residual.ensures.1
+
+pub returns-then-branch-clause-expands : goal.returns-then-branch-clause-expands
+returns-then-branch-clause-expands g c =
     let a = c.args in
     let shape = g.M.Machine.shape a.machine.now in
     let specification = g.M.Machine.specification a.machine.now in
@@ -72,77 +82,40 @@ expand_listed-requires-clause-shallow g c = λ n there.
     let right = g.M.Machine.right a.machine.now in
     let below = c.depth-below.result + 1 in
     let mid = c.reach_all.new.nodes in
-    let extends = c.in_ok-reach_all.ensures.extends in
-    c.requires.shallow n (at_less shape specification turns right below a.nodes.now mid extends a.from n c.requires.from there)
-
-pub expand_listed-requires-clause-here : goal.expand_listed-requires-clause-here
-expand_listed-requires-clause-here g c = λ n there.
-    let a = c.args in
-    let shape = g.M.Machine.shape a.machine.now in
-    let specification = g.M.Machine.specification a.machine.now in
-    let turns = g.M.Machine.turns a.machine.now in
-    let right = g.M.Machine.right a.machine.now in
-    let below = c.depth-below.result + 1 in
-    let mid = c.reach_all.new.nodes in
-    let extends = c.in_ok-reach_all.ensures.extends in
-    c.requires.here n (at_less shape specification turns right below a.nodes.now mid extends a.from n c.requires.from there)
-
-pub expand_listed-requires-clause-near : goal.expand_listed-requires-clause-near
-expand_listed-requires-clause-near g c = λ n there.
-    let a = c.args in
-    let shape = g.M.Machine.shape a.machine.now in
-    let specification = g.M.Machine.specification a.machine.now in
-    let turns = g.M.Machine.turns a.machine.now in
-    let right = g.M.Machine.right a.machine.now in
-    let below = c.depth-below.result + 1 in
-    let mid = c.reach_all.new.nodes in
-    let extends = c.in_ok-reach_all.ensures.extends in
-    let was = at_less shape specification turns right below a.nodes.now mid extends a.from n c.requires.from there in
-    let deep = c.depth-below.ensures n was in
-    subst (λ d. Each (λ (m : Node). m.depth ≤ d + 1) mid) deep
-    (shallow_more shape specification turns right below a.nodes.now mid extends (subst (λ d. Each (λ (m : Node). m.depth ≤ d + 1) a.nodes.now) (sym deep) (c.requires.near n was)))
-
-pub returns-then-branch-clause-expanded : goal.returns-then-branch-clause-expanded
-returns-then-branch-clause-expanded g c =
-    let a = c.args in
-    let shape = g.M.Machine.shape a.machine.now in
-    let specification = g.M.Machine.specification a.machine.now in
-    let turns = g.M.Machine.turns a.machine.now in
-    let right = g.M.Machine.right a.machine.now in
-    let below = c.depth-below.result + 1 in
-    let mid = c.reach_all.new.nodes in
-    let extends = c.in_ok-reach_all.ensures.extends in
-    none_any c.rest.result _
-    (λ n there.
-    let deep = c.depth-below.ensures n there in
-    ahead_expands shape specification turns right a.nodes.now mid (n.depth + 1)
-    (subst (λ d. Extends shape specification turns right (d + 1) a.nodes.now mid) deep extends) (c.requires.near n there) (state_at shape n) a.ahead.now
-    (subst (λ xs. IsAhead shape specification turns a.nodes.now (state_of shape xs) a.ahead.now) (sym (c.requires.here n there)) c.requires.ahead)
-    (subst (λ d. Each (λ (m : Node). Known shape mid (d + 1) (state_at shape m)) a.ahead.now.states) deep (c.in_ok-reach_all.ensures.known c.if-branch.true)))
-
-pub returns-then-branch-clause-wrong : goal.returns-then-branch-clause-wrong
-returns-then-branch-clause-wrong g c =
-    let a = c.args in
-    let shape = g.M.Machine.shape a.machine.now in
-    let specification = g.M.Machine.specification a.machine.now in
-    let turns = g.M.Machine.turns a.machine.now in
-    let right = g.M.Machine.right a.machine.now in
+    let extends = c.in_ok-reach_all.ensures.adds.extends in
     let rests = g.M.Machine.rests a.machine.now in
     let dead = IsDeadlock specification turns rests in
-    found_weaker
-    (λ (b : BadStep). (b.from ≡ a.from) × (b.choices.items ≡ []) × (b.fault ≡ fault.Deadlock) × dead (state_of shape a.state.now))
-    (λ (b : BadStep). (b.from ≡ a.from) × IsBadStep shape specification turns right rests a.nodes.now a.from b.choices.items b.fault)
-    c.rest.result
-    (λ b is. (
-      is.0,
-      λ n there s taken.
-          subst (λ f. GoesWrong right dead f (steps_from specification turns (state_at shape n) s) (state_at shape n)) (sym is.2)
-          (subst (λ xs. dead (state_of shape xs)) (sym (c.requires.here n there)) is.3),
-    ))
-    c.rest.ensures.wrong
+    let deeper = deeper_extends shape specification turns right a.from a.limit c.depth-below.result a.nodes.now mid c.depth-below.ensures extends in
+    record {
+      extends = deeper;
+      begun = c.in_ok-reach_all.ensures.adds.begun;
+      room = c.in_ok-reach_all.ensures.adds.room;
+      expanded =
+          none_any c.rest.result _
+          (λ n there.
+          let deep = c.depth-below.ensures n there in
+          ahead_expands shape specification turns right a.nodes.now mid (n.depth + 1)
+          (deeper n there) (c.requires.ready.near n there) (state_at shape n) a.ahead.now
+          (subst (λ xs. IsAhead shape specification turns a.nodes.now (state_of shape xs) a.ahead.now) (sym (c.requires.ready.here n there)) c.requires.ahead)
+          (subst (λ d. Each (λ (m : Node). Known shape mid (d + 1) (state_at shape m)) a.ahead.now.states) deep (c.in_ok-reach_all.ensures.known c.if-branch.true)));
+      wrong =
+          found_weaker
+          (λ (b : BadStep). (b.from ≡ a.from) × (b.choices.items ≡ []) × (b.fault ≡ fault.Deadlock) × dead (state_of shape a.state.now))
+          (λ (b : BadStep). (b.from ≡ a.from) × IsBadStep shape specification turns right rests a.nodes.now a.from b.choices.items b.fault)
+          c.rest.result
+          (λ b is. (
+            is.0,
+            λ n there s taken.
+                subst (λ f. GoesWrong right dead f (steps_from specification turns (state_at shape n) s) (state_at shape n)) (sym is.2)
+                (subst (λ xs. dead (state_of shape xs)) (sym (c.requires.ready.here n there)) is.3),
+          ))
+          c.rest.ensures.wrong;
+      apart = search rules;
+      full = search rules;
+    }
 
-pub returns-else-branch-clause-extends : goal.returns-else-branch-clause-extends
-returns-else-branch-clause-extends g c = λ n there.
+pub returns-else-branch-clause-expands : goal.returns-else-branch-clause-expands
+returns-else-branch-clause-expands g c =
     let a = c.args in
     let shape = g.M.Machine.shape a.machine.now in
     let specification = g.M.Machine.specification a.machine.now in
@@ -150,52 +123,26 @@ returns-else-branch-clause-extends g c = λ n there.
     let right = g.M.Machine.right a.machine.now in
     let below = c.depth-below.result + 1 in
     let mid = c.reach_all.new.nodes in
-    let extends = c.in_ok-reach_all.ensures.extends in
-    let deep = c.depth-below.ensures n there in
-    extends_both shape specification turns right (n.depth + 1) a.nodes.now mid c.expand_listed.new.nodes
-    (subst (λ d. Extends shape specification turns right (d + 1) a.nodes.now mid) deep extends)
-    (c.expand_listed.ensures.extends n (at_more shape specification turns right below a.nodes.now mid extends a.from n there))
-
-pub returns-else-branch-clause-begun : goal.returns-else-branch-clause-begun
-returns-else-branch-clause-begun g c =
-    let a = c.args in
-    let shape = g.M.Machine.shape a.machine.now in
-    let specification = g.M.Machine.specification a.machine.now in
-    let turns = g.M.Machine.turns a.machine.now in
-    let right = g.M.Machine.right a.machine.now in
-    let below = c.depth-below.result + 1 in
-    let mid = c.reach_all.new.nodes in
-    let extends = c.in_ok-reach_all.ensures.extends in
-    let n = some_at a.nodes.now a.from c.requires.from in
-    begun_both shape specification turns right (n.0.depth + 1) a.from a.nodes.now mid c.expand_listed.new.nodes
-    (c.expand_listed.ensures.extends n.0 (at_more shape specification turns right below a.nodes.now mid extends a.from n.0 n.1)) c.in_ok-reach_all.ensures.begun c.expand_listed.ensures.begun
-
-pub returns-else-branch-clause-expanded : goal.returns-else-branch-clause-expanded
-returns-else-branch-clause-expanded g c =
-    let a = c.args in
-    let shape = g.M.Machine.shape a.machine.now in
-    let specification = g.M.Machine.specification a.machine.now in
-    let turns = g.M.Machine.turns a.machine.now in
-    let right = g.M.Machine.right a.machine.now in
-    let below = c.depth-below.result + 1 in
-    let mid = c.reach_all.new.nodes in
-    let extends = c.in_ok-reach_all.ensures.extends in
-    none_weaker c.expand_listed.result _ _ (λ h n there. h n (at_more shape specification turns right below a.nodes.now mid extends a.from n there)) c.expand_listed.ensures.expanded
-
-pub returns-else-branch-clause-wrong : goal.returns-else-branch-clause-wrong
-returns-else-branch-clause-wrong g c =
-    let a = c.args in
-    let shape = g.M.Machine.shape a.machine.now in
-    let specification = g.M.Machine.specification a.machine.now in
-    let turns = g.M.Machine.turns a.machine.now in
-    let right = g.M.Machine.right a.machine.now in
-    let below = c.depth-below.result + 1 in
-    let mid = c.reach_all.new.nodes in
-    let extends = c.in_ok-reach_all.ensures.extends in
+    let extends = c.in_ok-reach_all.ensures.adds.extends in
     let rests = g.M.Machine.rests a.machine.now in
-    found_weaker
-    (λ (b : BadStep). (b.from ≡ a.from) × IsBadStep shape specification turns right rests mid a.from b.choices.items b.fault)
-    (λ (b : BadStep). (b.from ≡ a.from) × IsBadStep shape specification turns right rests a.nodes.now a.from b.choices.items b.fault)
-    c.expand_listed.result
-    (λ b is. (is.0, bad_step_less shape specification turns right below a.nodes.now mid extends rests a.from b.choices.items b.fault c.requires.from is.1))
-    c.expand_listed.ensures.wrong
+    record {
+      extends = λ n there.
+          extends_both shape specification turns right (n.depth + 1) a.nodes.now mid c.expand_listed.new.nodes
+          (deeper_extends shape specification turns right a.from a.limit c.depth-below.result a.nodes.now mid c.depth-below.ensures extends n there)
+          (c.expand_listed.ensures.expands.extends n (at_more shape specification turns right below a.nodes.now mid extends a.from n there));
+      begun =
+          let n = some_at a.nodes.now a.from c.requires.ready.from in
+          begun_both shape specification turns right (n.0.depth + 1) a.from a.nodes.now mid c.expand_listed.new.nodes
+          (c.expand_listed.ensures.expands.extends n.0 (at_more shape specification turns right below a.nodes.now mid extends a.from n.0 n.1)) c.in_ok-reach_all.ensures.adds.begun c.expand_listed.ensures.expands.begun;
+      room = c.expand_listed.ensures.expands.room;
+      expanded = none_weaker c.expand_listed.result _ _ (λ h n there. h n (at_more shape specification turns right below a.nodes.now mid extends a.from n there)) c.expand_listed.ensures.expands.expanded;
+      wrong =
+          found_weaker
+          (λ (b : BadStep). (b.from ≡ a.from) × IsBadStep shape specification turns right rests mid a.from b.choices.items b.fault)
+          (λ (b : BadStep). (b.from ≡ a.from) × IsBadStep shape specification turns right rests a.nodes.now a.from b.choices.items b.fault)
+          c.expand_listed.result
+          (λ b is. (is.0, bad_step_less shape specification turns right below a.nodes.now mid extends rests a.from b.choices.items b.fault c.requires.ready.from is.1))
+          c.expand_listed.ensures.expands.wrong;
+      apart = c.expand_listed.ensures.expands.apart;
+      full = c.expand_listed.ensures.expands.full;
+    }

@@ -21,37 +21,24 @@ bounds-ahead-k g c =
     let count = ahead_count (g.M.Machine.shape a.machine.now) (g.M.Machine.specification a.machine.now) (g.M.Machine.turns a.machine.now) a.nodes.now a.states.now a.ahead.now c.requires.ahead in
     omega (arith, count, c.loop-k-test.true)
 
-pub expand_step-requires-clause-shallow : goal.expand_step-requires-clause-shallow
-expand_step-requires-clause-shallow g c = λ m here.
+pub expand_step-requires-clause-ready : goal.expand_step-requires-clause-ready
+expand_step-requires-clause-ready g c =
     let a = c.args in
     let l = c.loop-k in
-    let shape = g.M.Machine.shape a.machine.now in
-    let specification = g.M.Machine.specification a.machine.now in
-    let turns = g.M.Machine.turns a.machine.now in
-    let right = g.M.Machine.right a.machine.now in
-    let rests = g.M.Machine.rests a.machine.now in
-    let within = g.M.Machine.within a.machine.now in
     let i = a.first + l.k in
     let n = some_at a.nodes.now i (omega (arith, c.requires.first, c.loop-k-test.true)) in
     let there = l.invariant.same i n.0 n.1 in
     let deep = shallow_at (λ (n : Node). n.depth < a.steps) a.nodes.now a.first (length a.states.now) l.k n.0 c.requires.shallow c.loop-k-test.true n.1 in
-    omega (arith, deep, c.ranges.steps.fits, ap (λ (n : Node). n.depth) (same_node l.nodes i n.0 m there here))
-
-pub expand_step-requires-clause-here : goal.expand_step-requires-clause-here
-expand_step-requires-clause-here g c = λ m here.
-    let a = c.args in
-    let l = c.loop-k in
-    let shape = g.M.Machine.shape a.machine.now in
-    let specification = g.M.Machine.specification a.machine.now in
-    let turns = g.M.Machine.turns a.machine.now in
-    let right = g.M.Machine.right a.machine.now in
-    let rests = g.M.Machine.rests a.machine.now in
-    let within = g.M.Machine.within a.machine.now in
-    let i = a.first + l.k in
-    let n = some_at a.nodes.now i (omega (arith, c.requires.first, c.loop-k-test.true)) in
-    let there = l.invariant.same i n.0 n.1 in
-    ap (λ (n : Node). n.state) (sym (same_node l.nodes i n.0 m there here))
-    ∙ sym (batch_at a.nodes.now a.first l.k a.states.now n.0 c.index-states-k.result c.requires.states c.loop-k-test.true n.1) ∙ sym c.index-states-k.is
+    record {
+      from = slice_get_within l.nodes i n.0 there;
+      shallow = λ m here. omega (arith, deep, c.ranges.steps.fits, ap (λ (n : Node). n.depth) (same_node l.nodes i n.0 m there here));
+      here = λ m here.
+          ap (λ (n : Node). n.state) (sym (same_node l.nodes i n.0 m there here))
+          ∙ sym (batch_at a.nodes.now a.first l.k a.states.now n.0 c.index-states-k.result c.requires.states c.loop-k-test.true n.1) ∙ sym c.index-states-k.is;
+      room = l.invariant.room;
+      nodes = l.invariant.looked.good;
+      near = l.invariant.near;
+    }
 
 pub expand_step-requires-clause-ahead : goal.expand_step-requires-clause-ahead
 expand_step-requires-clause-ahead g c =
@@ -77,7 +64,7 @@ returns-in-Ok-Some-clause-more g c =
     let i = a.first + l.k in
     let n = some_at a.nodes.now i (omega (arith, c.requires.first, c.loop-k-test.true)) in
     let there = l.invariant.same i n.0 n.1 in
-    let longer = long_more shape specification turns right (n.0.depth + 1) l.nodes c.expand_step.new.nodes (c.in-Ok-Some.ensures.extends n.0 there) in
+    let longer = long_more shape specification turns right (n.0.depth + 1) l.nodes c.expand_step.new.nodes (c.in-Ok-Some.ensures.expands.extends n.0 there) in
     omega (arith, longer, l.invariant.more)
 
 pub returns-in-Err-clause-more : goal.returns-in-Err-clause-more
@@ -93,7 +80,7 @@ returns-in-Err-clause-more g c =
     let i = a.first + l.k in
     let n = some_at a.nodes.now i (omega (arith, c.requires.first, c.loop-k-test.true)) in
     let there = l.invariant.same i n.0 n.1 in
-    let longer = long_more shape specification turns right (n.0.depth + 1) l.nodes c.expand_step.new.nodes (c.in-Err.ensures.extends n.0 there) in
+    let longer = long_more shape specification turns right (n.0.depth + 1) l.nodes c.expand_step.new.nodes (c.in-Err.ensures.expands.extends n.0 there) in
     omega (arith, longer, l.invariant.more)
 
 pub returns-in-Ok-Some-clause-stopped : goal.returns-in-Ok-Some-clause-stopped
@@ -110,22 +97,22 @@ returns-in-Ok-Some-clause-stopped g c =
     let n = some_at a.nodes.now i (omega (arith, c.requires.first, c.loop-k-test.true)) in
     let there = l.invariant.same i n.0 n.1 in
     let inside = shallow_at (λ (n : Node). within (state_at shape n) ≡ true) a.nodes.now a.first (length a.states.now) l.k n.0 c.requires.inside c.loop-k-test.true n.1 in
-    let extends = c.in-Ok-Some.ensures.extends n.0 there in
+    let extends = c.in-Ok-Some.ensures.expands.extends n.0 there in
     let longer = long_more shape specification turns right (n.0.depth + 1) l.nodes c.expand_step.new.nodes extends in
     let wrong : (c.in-Ok-Some.bad.from ≡ i) × IsBadStep shape specification turns right rests l.nodes i c.in-Ok-Some.bad.choices.items c.in-Ok-Some.bad.fault =
-    subst (λ o. IfSome o (λ (b : BadStep). (b.from ≡ i) × IsBadStep shape specification turns right rests l.nodes i b.choices.items b.fault)) c.in-Ok-Some.field-0-is c.in-Ok-Some.ensures.wrong in
+    subst (λ o. IfSome o (λ (b : BadStep). (b.from ≡ i) × IsBadStep shape specification turns right rests l.nodes i b.choices.items b.fault)) c.in-Ok-Some.field-0-is c.in-Ok-Some.ensures.expands.wrong in
     let at : slice_get c.expand_step.new.nodes c.in-Ok-Some.bad.from ≡ Some n.0 =
     ap (slice_get c.expand_step.new.nodes) wrong.0 ∙ at_more shape specification turns right (n.0.depth + 1) l.nodes c.expand_step.new.nodes extends i n.0 there in
     let deep = shallow_at (λ (n : Node). n.depth < a.steps) a.nodes.now a.first (length a.states.now) l.k n.0 c.requires.shallow c.loop-k-test.true n.1 in
     let bad : IsBad shape specification turns right rests c.expand_step.new.nodes c.in-Ok-Some.bad = record {
       from = n.0;
       there = at;
-      apart = subst (λ o. IfSome o (λ (b : BadStep). HaveOwnPaths b.choices.items)) c.in-Ok-Some.field-0-is c.in-Ok-Some.ensures.apart;
+      apart = subst (λ o. IfSome o (λ (b : BadStep). HaveOwnPaths b.choices.items)) c.in-Ok-Some.field-0-is c.in-Ok-Some.ensures.expands.apart;
       wrong = wrong.1 n.0 there;
     } in
     record {
       some = omega (arith, longer, l.invariant.more, c.requires.first, c.loop-k-test.true);
-      so_far = looked_same shape specification turns right within a.steps i n.0 (n.0.depth + 1) l.nodes c.expand_step.new.nodes there refl extends (λ j k past here. (c.in-Ok-Some.ensures.begun j k past here, inside)) l.invariant.near l.invariant.looked;
+      so_far = looked_same shape specification turns right within a.steps i n.0 (n.0.depth + 1) l.nodes c.expand_step.new.nodes there refl extends (λ j k past here. (c.in-Ok-Some.ensures.expands.begun j k past here, inside)) l.invariant.near l.invariant.looked;
       all = λ done. absurd done;
       closed = λ closed. cc;
       wrong = (
@@ -153,7 +140,7 @@ returns-in-Err-clause-stopped g c =
     let n = some_at a.nodes.now i (omega (arith, c.requires.first, c.loop-k-test.true)) in
     let there = l.invariant.same i n.0 n.1 in
     let inside = shallow_at (λ (n : Node). within (state_at shape n) ≡ true) a.nodes.now a.first (length a.states.now) l.k n.0 c.requires.inside c.loop-k-test.true n.1 in
-    let extends = c.in-Err.ensures.extends n.0 there in
+    let extends = c.in-Err.ensures.expands.extends n.0 there in
     let longer = long_more shape specification turns right (n.0.depth + 1) l.nodes c.expand_step.new.nodes extends in
     let refused = c.cut_off.ensures.refused in
     let makes = g.M.Machine.made a.machine.now in
@@ -164,11 +151,11 @@ returns-in-Err-clause-stopped g c =
     sym (batch_at a.nodes.now a.first l.k a.states.now n.0 c.index-states-k.result c.requires.states c.loop-k-test.true n.1) ∙ sym c.index-states-k.is in
     record {
       some = omega (arith, longer, l.invariant.more, c.requires.first, c.loop-k-test.true);
-      so_far = looked_same shape specification turns right within a.steps i n.0 (n.0.depth + 1) l.nodes c.expand_step.new.nodes there refl extends (λ j k past here. (c.in-Err.ensures.begun j k past here, inside)) l.invariant.near l.invariant.looked;
+      so_far = looked_same shape specification turns right within a.steps i n.0 (n.0.depth + 1) l.nodes c.expand_step.new.nodes there refl extends (λ j k past here. (c.in-Err.ensures.expands.begun j k past here, inside)) l.invariant.near l.invariant.looked;
       all = λ done. absurd (refused_done c.cut_off.result refused done);
       closed = λ closed. absurd (refused_closed c.cut_off.result refused closed);
       wrong = refused_bad _ c.cut_off.result refused;
-      full = λ full. halts_full (a.limit ≤ length c.expand_step.new.nodes) (IsOverLimitOf makes limit A) c.in-Err.halt (c.cut_off.ensures.states full) c.in-Err.ensures.full;
+      full = λ full. halts_full (a.limit ≤ length c.expand_step.new.nodes) (IsOverLimitOf makes limit A) c.in-Err.halt (c.cut_off.ensures.states full) c.in-Err.ensures.expands.full;
       crowded = ends_crowded (a.limit ≤ length c.expand_step.new.nodes) (IsOverLimitOf makes limit A) (λ crowd. (m : Node) × (slice_get c.expand_step.new.nodes i ≡ Some m) × (m.depth < a.steps) × IsOverLimitOf makes limit (state_at shape m) crowd)
           c.cut_off.result c.in-Err.halt c.cut_off.ensures.crowd
           (λ crowd so. (
@@ -176,7 +163,7 @@ returns-in-Err-clause-stopped g c =
             at_more shape specification turns right (n.0.depth + 1) l.nodes c.expand_step.new.nodes extends i n.0 there,
             deep,
             subst (λ xs. IsOverLimitOf makes limit (state_of shape xs) crowd) (sym here) so,
-          )) c.in-Err.ensures.full;
+          )) c.in-Err.ensures.expands.full;
     }
 
 pub loop-k-preserved : goal.loop-k-preserved
@@ -193,20 +180,20 @@ loop-k-preserved g c =
     let n = some_at a.nodes.now i (omega (arith, c.requires.first, c.loop-k-test.true)) in
     let there = l.invariant.same i n.0 n.1 in
     let inside = shallow_at (λ (n : Node). within (state_at shape n) ≡ true) a.nodes.now a.first (length a.states.now) l.k n.0 c.requires.inside c.loop-k-test.true n.1 in
-    let extends = c.in-Ok-None.ensures.extends n.0 there in
+    let extends = c.in-Ok-None.ensures.expands.extends n.0 there in
     let longer = long_more shape specification turns right (n.0.depth + 1) l.nodes c.expand_step.new.nodes extends in
     let expanded : Expanded shape specification turns c.expand_step.new.nodes n.0 =
-    subst (λ o. IfNone o ((n : Node) → slice_get l.nodes i ≡ Some n → Expanded shape specification turns c.expand_step.new.nodes n)) c.in-Ok-None.field-0-is c.in-Ok-None.ensures.expanded n.0 there in
+    subst (λ o. IfNone o ((n : Node) → slice_get l.nodes i ≡ Some n → Expanded shape specification turns c.expand_step.new.nodes n)) c.in-Ok-None.field-0-is c.in-Ok-None.ensures.expands.expanded n.0 there in
     let next : i + 1 ≡ a.first + (l.k + 1) = omega arith in
     let deep = shallow_at (λ (n : Node). n.depth < a.steps) a.nodes.now a.first (length a.states.now) l.k n.0 c.requires.shallow c.loop-k-test.true n.1 in
     let here : n.0.state ≡ c.index-states-k.result =
     sym (batch_at a.nodes.now a.first l.k a.states.now n.0 c.index-states-k.result c.requires.states c.loop-k-test.true n.1) ∙ sym c.index-states-k.is in
     let so : RestsSo specification turns rests (state_at shape n.0) i l.quiet.items c.expand_step.new.quiet.items =
     subst (λ xs. RestsSo specification turns rests (state_of shape xs) i l.quiet.items c.expand_step.new.quiet.items) (sym here)
-    (subst (λ o. IfNone o (RestsSo specification turns rests (state_of shape c.index-states-k.result) i l.quiet.items c.expand_step.new.quiet.items)) c.in-Ok-None.field-0-is c.in-Ok-None.ensures.rests) in
-    let both = looked_more shape specification turns right within a.steps i n.0 (n.0.depth + 1) l.nodes c.expand_step.new.nodes there refl extends (λ low there. expanded) (λ j k past here. (c.in-Ok-None.ensures.begun j k past here, inside)) l.invariant.near l.invariant.looked in
+    (subst (λ o. IfNone o (RestsSo specification turns rests (state_of shape c.index-states-k.result) i l.quiet.items c.expand_step.new.quiet.items)) c.in-Ok-None.field-0-is c.in-Ok-None.ensures.quiet.rests) in
+    let both = looked_more shape specification turns right within a.steps i n.0 (n.0.depth + 1) l.nodes c.expand_step.new.nodes there refl extends (λ low there. expanded) (λ j k past here. (c.in-Ok-None.ensures.expands.begun j k past here, inside)) l.invariant.near l.invariant.looked in
     record {
-      room = c.in-Ok-None.ensures.room;
+      room = c.in-Ok-None.ensures.expands.room;
       more = omega (arith, longer, l.invariant.more);
       same = λ j m here. at_more shape specification turns right (n.0.depth + 1) l.nodes c.expand_step.new.nodes extends j m (l.invariant.same j m here);
       looked = subst (λ j. IsLooked shape specification turns right within a.steps j c.expand_step.new.nodes) next both.0;
@@ -227,10 +214,10 @@ returns-in-Ok-Some-clause-rests g c =
     let i = a.first + l.k in
     let n = some_at a.nodes.now i (omega (arith, c.requires.first, c.loop-k-test.true)) in
     let there = l.invariant.same i n.0 n.1 in
-    let extends = c.in-Ok-Some.ensures.extends n.0 there in
+    let extends = c.in-Ok-Some.ensures.expands.extends n.0 there in
     rested_same shape specification turns rests within a.steps i l.nodes c.expand_step.new.nodes extends.more l.quiet.items c.expand_step.new.quiet.items
     (omega (arith, slice_get_within l.nodes i n.0 there)) extends.is
-    (subst (λ o. IfSome o (λ (_ : BadStep). c.expand_step.new.quiet.items ≡ l.quiet.items)) c.in-Ok-Some.field-0-is c.in-Ok-Some.ensures.listed) l.invariant.rested
+    (subst (λ o. IfSome o (λ (_ : BadStep). c.expand_step.new.quiet.items ≡ l.quiet.items)) c.in-Ok-Some.field-0-is c.in-Ok-Some.ensures.quiet.listed) l.invariant.rested
 
 pub returns-in-Err-clause-rests : goal.returns-in-Err-clause-rests
 returns-in-Err-clause-rests g c =
@@ -244,6 +231,6 @@ returns-in-Err-clause-rests g c =
     let i = a.first + l.k in
     let n = some_at a.nodes.now i (omega (arith, c.requires.first, c.loop-k-test.true)) in
     let there = l.invariant.same i n.0 n.1 in
-    let extends = c.in-Err.ensures.extends n.0 there in
+    let extends = c.in-Err.ensures.expands.extends n.0 there in
     rested_same shape specification turns rests within a.steps i l.nodes c.expand_step.new.nodes extends.more l.quiet.items c.expand_step.new.quiet.items
-    (omega (arith, slice_get_within l.nodes i n.0 there)) extends.is c.in-Err.ensures.unlisted l.invariant.rested
+    (omega (arith, slice_get_within l.nodes i n.0 there)) extends.is c.in-Err.ensures.quiet.unlisted l.invariant.rested

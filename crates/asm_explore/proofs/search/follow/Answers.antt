@@ -1,16 +1,14 @@
-use Rattle.std.proofs.Common.{◌≡◌, ◌≤◌, ◌∙◌, length, refl, false, ap, sym, subst}
+use Rattle.std.proofs.Common.{◌≡◌, ◌∙◌, refl, rules, false, ap, sym, subst}
 use Rattle.asm_state.specs.code.Contents.{IsStateOf}
 use Rattle.asm_state.specs.Signature.{state_of}
 use Rattle.asm_state.specs.Updates.{fire}
 use Rattle.asm_updates.specs.code.Stands.{Stands}
-use Rattle.asm_explore.specs.declared.outcomes.outcomes_error.RuleOverLimit.{RuleOverLimit}
-use Rattle.asm_explore.specs.code.SearchEnds.{HaltsSo}
 use Rattle.asm_explore.specs.code.OutcomeLists.{Situation, AreTaken}
 use Rattle.asm_explore.specs.code.ReachedStates.{Known, steps_from, state_at}
 use Rattle.asm_explore.specs.Search.{LeadsOn}
-use Rattle.asm_explore.proofs.SearchEnds.{full_on}
 use Rattle.asm_explore.proofs.ScriptLemmas.ScriptToState.{some_script}
-use Rattle.asm_explore.proofs.StateLemmas.MoreNodes.{set_leads, set_stands, set_wrong, path_wrong, some_at}
+use Rattle.asm_explore.proofs.StateLemmas.AddedNodes.{none_added, added_ok, added_on}
+use Rattle.asm_explore.proofs.StateLemmas.MoreNodes.{begun_none, extends_none, set_leads, set_stands, set_wrong, path_wrong, some_at}
 use Rattle.asm_explore.proofs.OutcomeLemmas.SequenceOutcomes.{no_fault_found, fault_found}
 use Rattle.asm_explore.proofs.search.follow.Goals as goal
 
@@ -20,7 +18,7 @@ reach-requires-clause-state g c =
     let shape = g.M.Machine.shape a.machine.now in
     let signature = c.signature-signature.result.now in
     let set = c.in-Set.updates in
-    let n = some_at a.nodes.now a.from c.requires.from in
+    let n = some_at a.nodes.now a.from c.requires.ready.from in
     let taken = some_script 1 a.one.now.choices.items c.requires.apart in
     let s : Situation = record { script = taken.0; step = 1 } in
     let r = steps_from (g.M.Machine.specification a.machine.now) (g.M.Machine.turns a.machine.now) (state_at shape n.0) s in
@@ -101,6 +99,63 @@ returns-clause-wrong g c = λ n there s taken.
     ∙ ap (λ xs. fire (state_of shape xs) U) (sym (c.requires.here n there)))
     (c.in_ok-fine.ensures.wrong c.if-fine.false)
 
-pub returns-in_err-fine-clause-full : goal.returns-in_err-fine-clause-full
-returns-in_err-fine-clause-full g c =
-    full_on (HaltsSo (c.args.limit ≤ length c.reach.new.nodes) (λ (_ : RuleOverLimit). ⊥)) c.reach.result c.from_residual-in_err-fine.result c.in_err-fine.field-0.0 c.in_err-fine.was c.from_residual-in_err-fine.ensures.1 c.reach.ensures.full
+-- ---- the nodes that are added
+
+pub returns-in-Exhausted-clause-adds : goal.returns-in-Exhausted-clause-adds
+returns-in-Exhausted-clause-adds g c =
+    let a = c.args in
+    let shape = g.M.Machine.shape a.machine.now in
+    let specification = g.M.Machine.specification a.machine.now in
+    let turns = g.M.Machine.turns a.machine.now in
+    let right = g.M.Machine.right a.machine.now in
+    none_added shape specification turns right a.from a.limit a.below a.nodes.now _ c.requires.ready.room
+
+pub returns-then-is_some-clause-adds : goal.returns-then-is_some-clause-adds
+returns-then-is_some-clause-adds g c =
+    let a = c.args in
+    let shape = g.M.Machine.shape a.machine.now in
+    let specification = g.M.Machine.specification a.machine.now in
+    let turns = g.M.Machine.turns a.machine.now in
+    let right = g.M.Machine.right a.machine.now in
+    none_added shape specification turns right a.from a.limit a.below a.nodes.now _ c.requires.ready.room
+
+pub returns-in_err-next-clause-adds : goal.returns-in_err-next-clause-adds
+returns-in_err-next-clause-adds g c =
+    let a = c.args in
+    let shape = g.M.Machine.shape a.machine.now in
+    let specification = g.M.Machine.specification a.machine.now in
+    let turns = g.M.Machine.turns a.machine.now in
+    let right = g.M.Machine.right a.machine.now in
+    record {
+      extends = extends_none shape specification turns right a.below a.nodes.now;
+      begun = begun_none a.from a.nodes.now;
+      room = c.requires.ready.room;
+      full = search rules;
+    }
+
+pub returns-then-fine-clause-adds : goal.returns-then-fine-clause-adds
+returns-then-fine-clause-adds g c =
+    let a = c.args in
+    let shape = g.M.Machine.shape a.machine.now in
+    let specification = g.M.Machine.specification a.machine.now in
+    let turns = g.M.Machine.turns a.machine.now in
+    let right = g.M.Machine.right a.machine.now in
+    added_ok shape specification turns right a.from a.limit a.below a.nodes.now c.reach.new.nodes c.reach.result c.reach.ensures.adds _
+
+pub returns-clause-adds : goal.returns-clause-adds
+returns-clause-adds g c =
+    let a = c.args in
+    let shape = g.M.Machine.shape a.machine.now in
+    let specification = g.M.Machine.specification a.machine.now in
+    let turns = g.M.Machine.turns a.machine.now in
+    let right = g.M.Machine.right a.machine.now in
+    added_ok shape specification turns right a.from a.limit a.below a.nodes.now c.reach.new.nodes c.reach.result c.reach.ensures.adds _
+
+pub returns-in_err-fine-clause-adds : goal.returns-in_err-fine-clause-adds
+returns-in_err-fine-clause-adds g c =
+    let a = c.args in
+    let shape = g.M.Machine.shape a.machine.now in
+    let specification = g.M.Machine.specification a.machine.now in
+    let turns = g.M.Machine.turns a.machine.now in
+    let right = g.M.Machine.right a.machine.now in
+    added_on shape specification turns right a.from a.limit a.below a.nodes.now c.reach.new.nodes c.reach.result c.reach.ensures.adds c.from_residual-in_err-fine.result c.in_err-fine.field-0.0 c.in_err-fine.was c.from_residual-in_err-fine.ensures.1

@@ -1,4 +1,4 @@
-use Rattle.std.proofs.Common.{◌≡◌, ◌≤◌, ◌∙◌, length, ap, sym, subst, arith}
+use Rattle.std.proofs.Common.{◌≡◌, ◌∙◌, ap, sym, subst, arith}
 use Rattle.std.specs.Prelude.{Some, IfNone, IfSome, slice_get}
 use Rattle.std.proofs.lemmas.Option.{slice_get-get_or}
 use Rattle.asm_meaning.specs.Yields.{Result}
@@ -8,10 +8,8 @@ use Rattle.asm_explore.specs.code.ChoicePaths.{HaveOwnPaths}
 use Rattle.asm_explore.specs.code.ReachedStates.{IsOutcome, IsBadStep, Known, state_at}
 use Rattle.asm_explore.specs.Search.{LeadsOn}
 use Rattle.asm_explore.proofs.OutcomeLemmas.ListLemmas.{each_at}
-use Rattle.asm_explore.proofs.StateLemmas.MoreNodes.{begun_none, begun_both, extends_none, extends_both, outcome_more, bad_step_less, follows_none, follows_more, follows_all, shallow_more}
-use Rattle.asm_explore.specs.declared.outcomes.outcomes_error.RuleOverLimit.{RuleOverLimit}
-use Rattle.asm_explore.specs.code.SearchEnds.{HaltsSo}
-use Rattle.asm_explore.proofs.SearchEnds.{full_on}
+use Rattle.asm_explore.proofs.StateLemmas.AddedNodes.{can_more, more_added, added_ok, added_on}
+use Rattle.asm_explore.proofs.StateLemmas.MoreNodes.{begun_none, begun_both, extends_none, extends_both, outcome_more, bad_step_less, follows_none, follows_more, follows_all}
 use Rattle.asm_explore.proofs.search.follow_all.Goals as goal
 
 pub loop-k-init : goal.loop-k-init
@@ -23,7 +21,7 @@ loop-k-init g c =
     let right = g.M.Machine.right a.machine.now in
     record {
       begun = begun_none a.from a.nodes.now;
-      room = c.requires.room;
+      room = c.requires.ready.room;
       extends = extends_none shape specification turns right a.below a.nodes.now;
       follows = follows_none shape specification turns right a.nodes.now a.from a.below a.outcomes.now a.nodes.now;
     }
@@ -37,7 +35,7 @@ follow-requires-clause-outcome g c =
     let turns = g.M.Machine.turns a.machine.now in
     let right = g.M.Machine.right a.machine.now in
     let f = c.index-outcomes-k.result in
-    outcome_more shape specification turns right a.below a.nodes.now l.nodes l.invariant.extends a.from f c.requires.from
+    outcome_more shape specification turns right a.below a.nodes.now l.nodes l.invariant.extends a.from f c.requires.ready.from
     (each_at (IsOutcome shape specification turns a.nodes.now a.from a.below) a.outcomes.now l.k f c.loop-k-test.true c.index-outcomes-k.is c.requires.sound)
 
 pub loop-k-preserved : goal.loop-k-preserved
@@ -50,28 +48,37 @@ loop-k-preserved g c =
     let right = g.M.Machine.right a.machine.now in
     let f = c.index-outcomes-k.result in
     record {
-      begun = begun_both shape specification turns right a.below a.from a.nodes.now l.nodes c.follow.new.nodes c.in_ok-fault.ensures.extends l.invariant.begun c.in_ok-fault.ensures.begun;
-      room = c.in_ok-fault.ensures.room;
-      extends = extends_both shape specification turns right a.below a.nodes.now l.nodes c.follow.new.nodes l.invariant.extends c.in_ok-fault.ensures.extends;
+      begun = begun_both shape specification turns right a.below a.from a.nodes.now l.nodes c.follow.new.nodes c.in_ok-fault.ensures.adds.extends l.invariant.begun c.in_ok-fault.ensures.adds.begun;
+      room = c.in_ok-fault.ensures.adds.room;
+      extends = extends_both shape specification turns right a.below a.nodes.now l.nodes c.follow.new.nodes l.invariant.extends c.in_ok-fault.ensures.adds.extends;
       follows = follows_more shape specification turns right a.nodes.now a.from a.below a.outcomes.now l.k f l.nodes c.follow.new.nodes
-          c.loop-k-test.true c.index-outcomes-k.is l.invariant.extends c.in_ok-fault.ensures.extends
+          c.loop-k-test.true c.index-outcomes-k.is l.invariant.extends c.in_ok-fault.ensures.adds.extends
           (subst (λ o. IfNone o ((n : Node) (r : Result) → slice_get l.nodes a.from ≡ Some n → Shows shape f.answer r → LeadsOn r (state_at shape n) (Known shape c.follow.new.nodes a.below))) c.in_default.is
           c.in_ok-fault.ensures.leads) l.invariant.follows;
     }
 
-pub returns-in-Some-clause-extends : goal.returns-in-Some-clause-extends
-returns-in-Some-clause-extends g c =
+pub returns-in-Some-clause-adds : goal.returns-in-Some-clause-adds
+returns-in-Some-clause-adds g c =
     let a = c.args in
     let l = c.loop-k in
-    extends_both (g.M.Machine.shape a.machine.now) (g.M.Machine.specification a.machine.now) (g.M.Machine.turns a.machine.now) (g.M.Machine.right a.machine.now) a.below
-    a.nodes.now l.nodes c.follow.new.nodes l.invariant.extends c.in_ok-fault.ensures.extends
+    let shape = g.M.Machine.shape a.machine.now in
+    let specification = g.M.Machine.specification a.machine.now in
+    let turns = g.M.Machine.turns a.machine.now in
+    let right = g.M.Machine.right a.machine.now in
+    added_ok shape specification turns right a.from a.limit a.below a.nodes.now c.follow.new.nodes c.follow.result
+    (more_added shape specification turns right a.from a.limit a.below a.nodes.now l.nodes c.follow.new.nodes c.follow.result l.invariant.extends l.invariant.begun c.follow.ensures.adds) _
 
-pub returns-in_err-fault-clause-extends : goal.returns-in_err-fault-clause-extends
-returns-in_err-fault-clause-extends g c =
+pub returns-in_err-fault-clause-adds : goal.returns-in_err-fault-clause-adds
+returns-in_err-fault-clause-adds g c =
     let a = c.args in
     let l = c.loop-k in
-    extends_both (g.M.Machine.shape a.machine.now) (g.M.Machine.specification a.machine.now) (g.M.Machine.turns a.machine.now) (g.M.Machine.right a.machine.now) a.below
-    a.nodes.now l.nodes c.follow.new.nodes l.invariant.extends c.follow.ensures.extends
+    let shape = g.M.Machine.shape a.machine.now in
+    let specification = g.M.Machine.specification a.machine.now in
+    let turns = g.M.Machine.turns a.machine.now in
+    let right = g.M.Machine.right a.machine.now in
+    added_on shape specification turns right a.from a.limit a.below a.nodes.now c.follow.new.nodes c.follow.result
+    (more_added shape specification turns right a.from a.limit a.below a.nodes.now l.nodes c.follow.new.nodes c.follow.result l.invariant.extends l.invariant.begun c.follow.ensures.adds)
+    c.from_residual.result c.in_err-fault.field-0.0 c.in_err-fault.was c.from_residual.ensures.1
 
 pub returns-in-Some-clause-wrong : goal.returns-in-Some-clause-wrong
 returns-in-Some-clause-wrong g c =
@@ -81,9 +88,14 @@ returns-in-Some-clause-wrong g c =
       f,
       slice_get-get_or a.outcomes.now l.k f c.loop-k-test.true ∙ ap Some (sym c.index-outcomes-k.is),
       bad_step_less (g.M.Machine.shape a.machine.now) (g.M.Machine.specification a.machine.now) (g.M.Machine.turns a.machine.now) (g.M.Machine.right a.machine.now) a.below
-          a.nodes.now l.nodes l.invariant.extends (g.M.Machine.rests a.machine.now) a.from f.choices.items c.in-Some.fault c.requires.from
+          a.nodes.now l.nodes l.invariant.extends (g.M.Machine.rests a.machine.now) a.from f.choices.items c.in-Some.fault c.requires.ready.from
           (subst (λ o. IfSome o (IsBadStep (g.M.Machine.shape a.machine.now) (g.M.Machine.specification a.machine.now) (g.M.Machine.turns a.machine.now) (g.M.Machine.right a.machine.now) (g.M.Machine.rests a.machine.now) l.nodes a.from f.choices.items)) c.in-Some.is c.in_ok-fault.ensures.wrong),
     )
+
+pub returns-clause-adds : goal.returns-clause-adds
+returns-clause-adds g c =
+    let l = c.loop-k in
+    record { extends = l.invariant.extends; begun = l.invariant.begun; room = l.invariant.room; full = tt }
 
 pub returns-clause-leads : goal.returns-clause-leads
 returns-clause-leads g c =
@@ -92,31 +104,12 @@ returns-clause-leads g c =
     follows_all (g.M.Machine.shape a.machine.now) (g.M.Machine.specification a.machine.now) (g.M.Machine.turns a.machine.now) (g.M.Machine.right a.machine.now)
     a.nodes.now a.from a.below a.outcomes.now l.k l.nodes (omega arith) l.invariant.follows
 
-pub follow-requires-clause-near : goal.follow-requires-clause-near
-follow-requires-clause-near g c =
+pub follow-requires-clause-ready : goal.follow-requires-clause-ready
+follow-requires-clause-ready g c =
     let a = c.args in
     let l = c.loop-k in
-    shallow_more (g.M.Machine.shape a.machine.now) (g.M.Machine.specification a.machine.now) (g.M.Machine.turns a.machine.now) (g.M.Machine.right a.machine.now) a.below
-    a.nodes.now l.nodes l.invariant.extends c.requires.near
-
-pub returns-in_err-fault-clause-full : goal.returns-in_err-fault-clause-full
-returns-in_err-fault-clause-full g c =
-    full_on (HaltsSo (c.args.limit ≤ length c.follow.new.nodes) (λ (_ : RuleOverLimit). ⊥)) c.follow.result c.from_residual.result c.in_err-fault.field-0.0 c.in_err-fault.was c.from_residual.ensures.1 c.follow.ensures.full
+    can_more (g.M.Machine.shape a.machine.now) (g.M.Machine.specification a.machine.now) (g.M.Machine.turns a.machine.now) (g.M.Machine.right a.machine.now) a.from a.limit a.below a.nodes.now l.nodes l.invariant.extends l.invariant.room c.requires.ready
 
 pub follow-requires-clause-apart : goal.follow-requires-clause-apart
 follow-requires-clause-apart g c =
     each_at (λ f. HaveOwnPaths f.choices.items) c.args.outcomes.now c.loop-k.k c.index-outcomes-k.result c.loop-k-test.true c.index-outcomes-k.is c.requires.apart
-
-pub returns-in_err-fault-clause-begun : goal.returns-in_err-fault-clause-begun
-returns-in_err-fault-clause-begun g c =
-    let a = c.args in
-    let l = c.loop-k in
-    begun_both (g.M.Machine.shape a.machine.now) (g.M.Machine.specification a.machine.now) (g.M.Machine.turns a.machine.now) (g.M.Machine.right a.machine.now) a.below
-    a.from a.nodes.now l.nodes c.follow.new.nodes c.follow.ensures.extends l.invariant.begun c.follow.ensures.begun
-
-pub returns-in-Some-clause-begun : goal.returns-in-Some-clause-begun
-returns-in-Some-clause-begun g c =
-    let a = c.args in
-    let l = c.loop-k in
-    begun_both (g.M.Machine.shape a.machine.now) (g.M.Machine.specification a.machine.now) (g.M.Machine.turns a.machine.now) (g.M.Machine.right a.machine.now) a.below
-    a.from a.nodes.now l.nodes c.follow.new.nodes c.in_ok-fault.ensures.extends l.invariant.begun c.in_ok-fault.ensures.begun

@@ -1,12 +1,10 @@
-use Rattle.std.proofs.Common.{◌<◌, ◌≤◌, length, sym, arith}
+use Rattle.std.proofs.Common.{◌<◌, length, sym, arith}
 use Rattle.std.proofs.lemmas.Option.{get_or_from_slice_get}
-use Rattle.asm_explore.specs.declared.outcomes.outcomes_error.RuleOverLimit.{RuleOverLimit}
-use Rattle.asm_explore.specs.code.SearchEnds.{HaltsSo}
 use Rattle.asm_explore.specs.code.PackedNodes.{Node}
 use Rattle.asm_explore.specs.code.ReachedStates.{Known, LeadsTo, state_at}
-use Rattle.asm_explore.proofs.SearchEnds.{full_on}
 use Rattle.asm_explore.proofs.OutcomeLemmas.ListLemmas.{each_weaker}
-use Rattle.asm_explore.proofs.StateLemmas.MoreNodes.{at_less, begun_both, begun_none, each_taken, each_taken_more, extends_both, extends_none, good_more, known_more, shallow_more, some_at}
+use Rattle.asm_explore.proofs.StateLemmas.AddedNodes.{can_more, more_added, added_ok, added_on}
+use Rattle.asm_explore.proofs.StateLemmas.MoreNodes.{at_less, begun_both, begun_none, each_taken, each_taken_more, extends_both, extends_none, known_more, some_at}
 use Rattle.asm_explore.proofs.search.reach_all.Goals as goal
 
 pub loop-k-init : goal.loop-k-init
@@ -14,30 +12,16 @@ loop-k-init g c =
     let a = c.args in
     record {
       begun = begun_none a.from a.nodes.now;
-      room = c.requires.room;
+      room = c.requires.ready.room;
       extends = extends_none (g.M.Machine.shape a.machine.now) (g.M.Machine.specification a.machine.now) (g.M.Machine.turns a.machine.now) (g.M.Machine.right a.machine.now) a.below a.nodes.now;
       known = tt;
     }
 
-pub reach_next-requires-clause-nodes : goal.reach_next-requires-clause-nodes
-reach_next-requires-clause-nodes g c =
+pub reach_next-requires-clause-ready : goal.reach_next-requires-clause-ready
+reach_next-requires-clause-ready g c =
     let a = c.args in
     let l = c.loop-k in
-    let shape = g.M.Machine.shape a.machine.now in
-    let specification = g.M.Machine.specification a.machine.now in
-    let turns = g.M.Machine.turns a.machine.now in
-    let right = g.M.Machine.right a.machine.now in
-    good_more shape specification turns right a.below a.nodes.now l.nodes l.invariant.extends c.requires.nodes
-
-pub reach_next-requires-clause-near : goal.reach_next-requires-clause-near
-reach_next-requires-clause-near g c =
-    let a = c.args in
-    let l = c.loop-k in
-    let shape = g.M.Machine.shape a.machine.now in
-    let specification = g.M.Machine.specification a.machine.now in
-    let turns = g.M.Machine.turns a.machine.now in
-    let right = g.M.Machine.right a.machine.now in
-    shallow_more shape specification turns right a.below a.nodes.now l.nodes l.invariant.extends c.requires.near
+    can_more (g.M.Machine.shape a.machine.now) (g.M.Machine.specification a.machine.now) (g.M.Machine.turns a.machine.now) (g.M.Machine.right a.machine.now) a.from a.limit a.below a.nodes.now l.nodes l.invariant.extends l.invariant.room c.requires.ready
 
 pub reach_next-requires-clause-leads : goal.reach_next-requires-clause-leads
 reach_next-requires-clause-leads g c =
@@ -49,7 +33,7 @@ reach_next-requires-clause-leads g c =
     let right = g.M.Machine.right a.machine.now in
     each_weaker (λ (m : Node). LeadsTo shape specification turns a.nodes.now a.from a.below (state_at shape m))
     (λ (m : Node). LeadsTo shape specification turns l.nodes a.from a.below (state_at shape m))
-    (λ m leads n there. leads n (at_less shape specification turns right a.below a.nodes.now l.nodes l.invariant.extends a.from n c.requires.from there)) a.states.now c.requires.leads
+    (λ m leads n there. leads n (at_less shape specification turns right a.below a.nodes.now l.nodes l.invariant.extends a.from n c.requires.ready.from there)) a.states.now c.requires.leads
 
 pub loop-k-preserved : goal.loop-k-preserved
 loop-k-preserved g c =
@@ -62,10 +46,10 @@ loop-k-preserved g c =
     let low : l.k < length a.states.now = omega (arith, c.loop-k-test.true, c.len-k-end.ensures) in
     let m = some_at a.states.now l.k low in
     let new = c.reach_next.new.nodes in
-    let more = c.in_ok-reach_next.ensures.extends in
+    let more = c.in_ok-reach_next.ensures.adds.extends in
     record {
-      begun = begun_both shape specification turns right a.below a.from a.nodes.now l.nodes new more l.invariant.begun c.in_ok-reach_next.ensures.begun;
-      room = c.in_ok-reach_next.ensures.room;
+      begun = begun_both shape specification turns right a.below a.from a.nodes.now l.nodes new more l.invariant.begun c.in_ok-reach_next.ensures.adds.begun;
+      room = c.in_ok-reach_next.ensures.adds.room;
       extends = extends_both shape specification turns right a.below a.nodes.now l.nodes new l.invariant.extends more;
       known = each_taken_more (λ (m : Node). Known shape new a.below (state_at shape m)) a.states.now l.k m.0 low (sym (get_or_from_slice_get a.states.now l.k m.0 m.0 m.1))
           (c.in_ok-reach_next.ensures.known c.if-not-branch.false m.0 m.1)
@@ -73,49 +57,33 @@ loop-k-preserved g c =
           (λ m h. known_more shape specification turns right a.below l.nodes new more a.below (state_at shape m) h) _ l.invariant.known);
     }
 
-pub returns-then-not-branch-clause-extends : goal.returns-then-not-branch-clause-extends
-returns-then-not-branch-clause-extends g c =
+pub returns-then-not-branch-clause-adds : goal.returns-then-not-branch-clause-adds
+returns-then-not-branch-clause-adds g c =
     let a = c.args in
     let l = c.loop-k in
     let shape = g.M.Machine.shape a.machine.now in
     let specification = g.M.Machine.specification a.machine.now in
     let turns = g.M.Machine.turns a.machine.now in
     let right = g.M.Machine.right a.machine.now in
-    extends_both shape specification turns right a.below a.nodes.now l.nodes c.reach_next.new.nodes l.invariant.extends c.in_ok-reach_next.ensures.extends
+    added_ok shape specification turns right a.from a.limit a.below a.nodes.now c.reach_next.new.nodes c.reach_next.result
+    (more_added shape specification turns right a.from a.limit a.below a.nodes.now l.nodes c.reach_next.new.nodes c.reach_next.result l.invariant.extends l.invariant.begun c.reach_next.ensures.adds) _
 
-pub returns-then-not-branch-clause-begun : goal.returns-then-not-branch-clause-begun
-returns-then-not-branch-clause-begun g c =
+pub returns-in_err-reach_next-clause-adds : goal.returns-in_err-reach_next-clause-adds
+returns-in_err-reach_next-clause-adds g c =
     let a = c.args in
     let l = c.loop-k in
     let shape = g.M.Machine.shape a.machine.now in
     let specification = g.M.Machine.specification a.machine.now in
     let turns = g.M.Machine.turns a.machine.now in
     let right = g.M.Machine.right a.machine.now in
-    begun_both shape specification turns right a.below a.from a.nodes.now l.nodes c.reach_next.new.nodes c.in_ok-reach_next.ensures.extends l.invariant.begun c.in_ok-reach_next.ensures.begun
+    added_on shape specification turns right a.from a.limit a.below a.nodes.now c.reach_next.new.nodes c.reach_next.result
+    (more_added shape specification turns right a.from a.limit a.below a.nodes.now l.nodes c.reach_next.new.nodes c.reach_next.result l.invariant.extends l.invariant.begun c.reach_next.ensures.adds)
+    c.from_residual.result c.in_err-reach_next.field-0.0 c.in_err-reach_next.was c.from_residual.ensures.1
 
-pub returns-in_err-reach_next-clause-extends : goal.returns-in_err-reach_next-clause-extends
-returns-in_err-reach_next-clause-extends g c =
-    let a = c.args in
+pub returns-clause-adds : goal.returns-clause-adds
+returns-clause-adds g c =
     let l = c.loop-k in
-    let shape = g.M.Machine.shape a.machine.now in
-    let specification = g.M.Machine.specification a.machine.now in
-    let turns = g.M.Machine.turns a.machine.now in
-    let right = g.M.Machine.right a.machine.now in
-    extends_both shape specification turns right a.below a.nodes.now l.nodes c.reach_next.new.nodes l.invariant.extends c.reach_next.ensures.extends
-
-pub returns-in_err-reach_next-clause-begun : goal.returns-in_err-reach_next-clause-begun
-returns-in_err-reach_next-clause-begun g c =
-    let a = c.args in
-    let l = c.loop-k in
-    let shape = g.M.Machine.shape a.machine.now in
-    let specification = g.M.Machine.specification a.machine.now in
-    let turns = g.M.Machine.turns a.machine.now in
-    let right = g.M.Machine.right a.machine.now in
-    begun_both shape specification turns right a.below a.from a.nodes.now l.nodes c.reach_next.new.nodes c.reach_next.ensures.extends l.invariant.begun c.reach_next.ensures.begun
-
-pub returns-in_err-reach_next-clause-full : goal.returns-in_err-reach_next-clause-full
-returns-in_err-reach_next-clause-full g c =
-    full_on (HaltsSo (c.args.limit ≤ length c.reach_next.new.nodes) (λ (_ : RuleOverLimit). ⊥)) c.reach_next.result c.from_residual.result c.in_err-reach_next.field-0.0 c.in_err-reach_next.was c.from_residual.ensures.1 c.reach_next.ensures.full
+    record { extends = l.invariant.extends; begun = l.invariant.begun; room = l.invariant.room; full = tt }
 
 pub returns-clause-known : goal.returns-clause-known
 returns-clause-known g c = λ yes.

@@ -1,15 +1,35 @@
-use Rattle.std.proofs.Common.{◌∙◌, sym, subst}
+use Rattle.std.proofs.Common.{◌∙◌, rules, sym, subst}
 use Rattle.asm_state.specs.code.Contents.{IsStateOf}
 use Rattle.asm_state.specs.Signature.{state_of}
 use Rattle.asm_explore.specs.code.PackedNodes.{Node}
 use Rattle.asm_explore.specs.code.ReachedStates.{LeadsTo, state_at}
-use Rattle.asm_explore.proofs.StateLemmas.MoreNodes.{each_got, found_known, some_at}
+use Rattle.asm_explore.proofs.StateLemmas.AddedNodes.{none_added}
+use Rattle.asm_explore.proofs.StateLemmas.MoreNodes.{begun_none, each_got, extends_none, found_known, some_at}
 use Rattle.asm_explore.proofs.search.reach_next.Goals as goal
 
 pub returns-then-is_there-clause-known : goal.returns-then-is_there-clause-known
 returns-then-is_there-clause-known g c = λ yes m there.
     let a = c.args in
-    found_known (g.M.Machine.shape a.machine.now) a.nodes.now m.state a.below c.requires.near (c.is_there.ensures c.if-is_there.true m there)
+    found_known (g.M.Machine.shape a.machine.now) a.nodes.now m.state a.below c.requires.ready.near (c.is_there.ensures c.if-is_there.true m there)
+
+pub returns-then-is_there-clause-adds : goal.returns-then-is_there-clause-adds
+returns-then-is_there-clause-adds g c =
+    let a = c.args in
+    none_added (g.M.Machine.shape a.machine.now) (g.M.Machine.specification a.machine.now) (g.M.Machine.turns a.machine.now) (g.M.Machine.right a.machine.now) a.from a.limit a.below a.nodes.now _ c.requires.ready.room
+
+pub returns-in_err-state-clause-adds : goal.returns-in_err-state-clause-adds
+returns-in_err-state-clause-adds g c =
+    let a = c.args in
+    let shape = g.M.Machine.shape a.machine.now in
+    let specification = g.M.Machine.specification a.machine.now in
+    let turns = g.M.Machine.turns a.machine.now in
+    let right = g.M.Machine.right a.machine.now in
+    record {
+      extends = extends_none shape specification turns right a.below a.nodes.now;
+      begun = begun_none a.from a.nodes.now;
+      room = c.requires.ready.room;
+      full = search rules;
+    }
 
 pub state-requires-clause-whole : goal.state-requires-clause-whole
 state-requires-clause-whole g c = λ n there.

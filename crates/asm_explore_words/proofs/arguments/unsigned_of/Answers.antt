@@ -2,7 +2,7 @@ use Rattle.std.proofs.Common.{◌≡◌, ◌∙◌, ap, Some, refl, sym}
 use Rattle.std.specs.Prelude.{unwrap_or}
 use Rattle.std.specs.Str.Parse.{ExplainsUnsignedError, HasUnsignedDigitsIfOk, ParsesUnsigned, digits_value, without_leading_plus}
 use Rattle.asm_explore_words.specs.CommandLine.{most_unsigned}
-use Rattle.asm_explore_words.proofs.ReadNumbers.{read_unsigned}
+use Rattle.asm_explore_words.proofs.UnsignedNumbers.{read_unsigned}
 use Rattle.asm_explore_words.proofs.arguments.unsigned_of.Goals as goal
 
 pub unwrap-requires : goal.unwrap-requires

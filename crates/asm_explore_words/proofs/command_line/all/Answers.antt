@@ -2,10 +2,8 @@ use Rattle.std.proofs.Common.{◌≡◌, ◌∙◌, true, ap, codes, refl}
 use Rattle.std.proofs.lemmas.Result.{IfOk-weaker}
 use Rattle.clap.specs.Simple.{App, app_of, app_of_fields, new_app, on_top}
 use Rattle.clap.specs.Walk.{rule_of}
-use Rattle.asm_limits.specs.declared.run_limits.TheConstants.{STEPS, TURNS, WORKERS}
-use Rattle.asm_explore_words.specs.declared.command_line.TheConstants.{STATES, OUTCOMES}
 use Rattle.asm_explore_words.specs.CommandLine.{command, flag, repeated}
-use Rattle.asm_arguments.specs.Arguments.{option, number, positional, required, or_else}
+use Rattle.asm_arguments.specs.Arguments.{option, positional, required}
 use Rattle.asm_arguments.proofs.Rules.{grown}
 use Rattle.asm_explore_words.proofs.command_line.all.Goals as goal
 
@@ -23,15 +21,15 @@ returns c =
     let made : app_of c.after_help.result ≡ with_version (new_app (codes "asm-explore all")) = ap app_of_fields c.after_help.ensures ∙ (ap app_of_fields c.about.ensures ∙ versioned) in
     let start : app_of c.no_binary_name.result ≡ without_name (with_version (new_app (codes "asm-explore all"))) = ap app_of_fields c.no_binary_name.ensures ∙ ap without_name made in
     let one = grown _ _ _ _ (required (positional (codes "spec"))) c.in_ok-arg.ensures start (ap rule_of c.required.ensures ∙ ap required c.word.ensures) refl in
-    let two = grown _ _ _ _ (or_else (codes "1000000") (number STEPS (codes "steps"))) c.in_ok-arg-2.ensures one (ap rule_of c.default_value.ensures ∙ ap (or_else (codes "1000000")) c.number.ensures) refl in
-    let three = grown _ _ _ _ (or_else (codes "1000") (number TURNS (codes "turns"))) c.in_ok-arg-3.ensures two (ap rule_of c.default_value-2.ensures ∙ ap (or_else (codes "1000")) c.number-2.ensures) refl in
+    let two = grown _ _ _ _ _ c.in_ok-arg-2.ensures one c.number.ensures refl in
+    let three = grown _ _ _ _ _ c.in_ok-arg-3.ensures two c.number-2.ensures refl in
     let four = grown _ _ _ _ (repeated (option (codes "always"))) c.in_ok-arg-4.ensures three c.texts.ensures refl in
     let five = grown _ _ _ _ (repeated (option (codes "always-file"))) c.in_ok-arg-5.ensures four c.texts-2.ensures refl in
     let six = grown _ _ _ _ (option (codes "deadlock-unless")) c.in_ok-arg-6.ensures five c.text.ensures refl in
     let seven = grown _ _ _ _ (option (codes "within")) c.in_ok-arg-7.ensures six c.text-2.ensures refl in
-    let eight = grown _ _ _ _ (or_else (codes "1000000") (number STATES (codes "states"))) c.in_ok-arg-8.ensures seven (ap rule_of c.default_value-3.ensures ∙ ap (or_else (codes "1000000")) c.number-3.ensures) refl in
-    let nine = grown _ _ _ _ (or_else (codes "10000") (number OUTCOMES (codes "outcomes"))) c.in_ok-arg-9.ensures eight (ap rule_of c.default_value-4.ensures ∙ ap (or_else (codes "10000")) c.number-4.ensures) refl in
-    let ten = grown _ _ _ _ (or_else (codes "1") (number WORKERS (codes "workers"))) c.in_ok-arg-10.ensures nine (ap rule_of c.default_value-5.ensures ∙ ap (or_else (codes "1")) c.number-5.ensures) refl in
+    let eight = grown _ _ _ _ _ c.in_ok-arg-8.ensures seven c.number-3.ensures refl in
+    let nine = grown _ _ _ _ _ c.in_ok-arg-9.ensures eight c.number-4.ensures refl in
+    let ten = grown _ _ _ _ _ c.in_ok-arg-10.ensures nine c.number-5.ensures refl in
     let eleven = grown _ _ _ _ (option (codes "dot")) c.in_ok-arg-11.ensures ten c.text-3.ensures refl in
     let twelve = grown _ _ _ _ (flag (codes "trace")) c.in_ok-arg-12.ensures eleven c.flag.ensures refl in
     IfOk-weaker c.arg-13.result _ _ (λ m added. grown _ m _ _ (flag (codes "progress")) added twelve c.flag-2.ensures refl) c.arg-13.ensures

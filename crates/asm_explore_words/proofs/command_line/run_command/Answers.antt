@@ -2,9 +2,8 @@ use Rattle.std.proofs.Common.{◌≡◌, ◌∙◌, true, ap, codes, refl}
 use Rattle.std.proofs.lemmas.Result.{IfOk-weaker}
 use Rattle.clap.specs.Simple.{App, app_of, app_of_fields, new_app, on_top}
 use Rattle.clap.specs.Walk.{rule_of}
-use Rattle.asm_limits.specs.declared.run_limits.TheConstants.{STEPS, TURNS}
 use Rattle.asm_explore_words.specs.CommandLine.{run_command}
-use Rattle.asm_arguments.specs.Arguments.{option, number, positional, required, or_else}
+use Rattle.asm_arguments.specs.Arguments.{option, positional, required}
 use Rattle.asm_arguments.proofs.Rules.{grown}
 use Rattle.asm_explore_words.proofs.command_line.run_command.Goals as goal
 
@@ -22,6 +21,6 @@ returns c =
     let made : app_of c.after_help.result ≡ with_version (new_app (codes "asm-explore")) = ap app_of_fields c.after_help.ensures ∙ (ap app_of_fields c.about.ensures ∙ versioned) in
     let start : app_of c.no_binary_name.result ≡ without_name (with_version (new_app (codes "asm-explore"))) = ap app_of_fields c.no_binary_name.ensures ∙ ap without_name made in
     let one = grown _ _ _ _ (required (positional (codes "spec"))) c.in_ok-arg.ensures start (ap rule_of c.required.ensures ∙ ap required c.word.ensures) refl in
-    let two = grown _ _ _ _ (or_else (codes "1000") (number STEPS (codes "steps"))) c.in_ok-arg-2.ensures one (ap rule_of c.default_value.ensures ∙ ap (or_else (codes "1000")) c.number.ensures) refl in
-    let three = grown _ _ _ _ (or_else (codes "1000") (number TURNS (codes "turns"))) c.in_ok-arg-3.ensures two (ap rule_of c.default_value-2.ensures ∙ ap (or_else (codes "1000")) c.number-2.ensures) refl in
+    let two = grown _ _ _ _ _ c.in_ok-arg-2.ensures one c.number.ensures refl in
+    let three = grown _ _ _ _ _ c.in_ok-arg-3.ensures two c.number-2.ensures refl in
     IfOk-weaker c.arg-4.result _ _ (λ m added. grown _ m _ _ (option (codes "script")) added three c.text.ensures refl) c.arg-4.ensures

@@ -5,7 +5,7 @@ use Rattle.clap.specs.Kinds.{HasKind}
 use Rattle.clap.specs.Simple.{App, is_simple, matches_of}
 use Rattle.clap.specs.declared.error.Error.{Error}
 use Rattle.asm_explore_words.specs.CommandLine.{run_refusals}
-use Rattle.asm_explore_words.proofs.RunOptions.{is_free, is_plain, spec, steps, turns}
+use Rattle.asm_explore_words.proofs.RunOptions.{is_free, is_plain, numbers, spec}
 use Rattle.asm_explore_words.proofs.command_line.run_parsed.Goals as goal
 
 pub returns-in_err-given-clause-refused : goal.returns-in_err-given-clause-refused
@@ -32,6 +32,5 @@ returns-clause-parsed g c =
     record {
       rows = (c.in_ok-given.ensures.matches (ap is_simple is ∙ is_plain)).0 ∙ ap (λ app. matches_of app words) is;
       spec = spec c.in_ok-command.command m p is;
-      steps = steps c.in_ok-command.command m p is;
-      turns = turns c.in_ok-command.command m p is;
+      numbers = numbers c.in_ok-command.command m p is;
     }

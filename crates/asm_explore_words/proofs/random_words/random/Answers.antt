@@ -2,10 +2,8 @@ use Rattle.std.proofs.Common.{◌≡◌, ◌∙◌, true, ap, codes, refl}
 use Rattle.std.proofs.lemmas.Result.{IfOk-weaker}
 use Rattle.clap.specs.Simple.{App, app_of, app_of_fields, new_app, on_top}
 use Rattle.clap.specs.Walk.{rule_of}
-use Rattle.asm_limits.specs.declared.run_limits.TheConstants.{STEPS, TURNS}
-use Rattle.asm_explore_words.specs.declared.command_line.TheConstants.{RUNS}
 use Rattle.asm_explore_words.specs.CommandLine.{flag, random_command, repeated, unsigned}
-use Rattle.asm_arguments.specs.Arguments.{option, number, positional, required, or_else}
+use Rattle.asm_arguments.specs.Arguments.{option, positional, required, or_else}
 use Rattle.asm_arguments.proofs.Rules.{grown}
 use Rattle.asm_explore_words.proofs.random_words.random.Goals as goal
 
@@ -23,11 +21,11 @@ returns c =
     let made : app_of c.after_help.result ≡ with_version (new_app (codes "asm-explore random")) = ap app_of_fields c.after_help.ensures ∙ (ap app_of_fields c.about.ensures ∙ versioned) in
     let start : app_of c.no_binary_name.result ≡ without_name (with_version (new_app (codes "asm-explore random"))) = ap app_of_fields c.no_binary_name.ensures ∙ ap without_name made in
     let one = grown _ _ _ _ (required (positional (codes "spec"))) c.in_ok-arg.ensures start (ap rule_of c.required.ensures ∙ ap required c.word.ensures) refl in
-    let two = grown _ _ _ _ (or_else (codes "1000") (number STEPS (codes "steps"))) c.in_ok-arg-2.ensures one (ap rule_of c.default_value.ensures ∙ ap (or_else (codes "1000")) c.number.ensures) refl in
-    let three = grown _ _ _ _ (or_else (codes "1000") (number TURNS (codes "turns"))) c.in_ok-arg-3.ensures two (ap rule_of c.default_value-2.ensures ∙ ap (or_else (codes "1000")) c.number-2.ensures) refl in
+    let two = grown _ _ _ _ _ c.in_ok-arg-2.ensures one c.number.ensures refl in
+    let three = grown _ _ _ _ _ c.in_ok-arg-3.ensures two c.number-2.ensures refl in
     let four = grown _ _ _ _ (repeated (option (codes "always"))) c.in_ok-arg-4.ensures three c.texts.ensures refl in
     let five = grown _ _ _ _ (repeated (option (codes "always-file"))) c.in_ok-arg-5.ensures four c.texts-2.ensures refl in
-    let six = grown _ _ _ _ (or_else (codes "1000") (number RUNS (codes "runs"))) c.in_ok-arg-6.ensures five (ap rule_of c.default_value-3.ensures ∙ ap (or_else (codes "1000")) c.number-3.ensures) refl in
-    let seven = grown _ _ _ _ (or_else (codes "0") (unsigned (codes "seed"))) c.in_ok-arg-7.ensures six (ap rule_of c.default_value-4.ensures ∙ ap (or_else (codes "0")) c.unsigned.ensures) refl in
+    let six = grown _ _ _ _ _ c.in_ok-arg-6.ensures five c.number-3.ensures refl in
+    let seven = grown _ _ _ _ (or_else (codes "0") (unsigned (codes "seed"))) c.in_ok-arg-7.ensures six (ap rule_of c.default_value.ensures ∙ ap (or_else (codes "0")) c.unsigned.ensures) refl in
     let eight = grown _ _ _ _ (flag (codes "trace")) c.in_ok-arg-8.ensures seven c.flag.ensures refl in
     IfOk-weaker c.arg-9.result _ _ (λ m added. grown _ m _ _ (flag (codes "progress")) added eight c.flag-2.ensures refl) c.arg-9.ensures

@@ -5,7 +5,7 @@ use Rattle.clap.specs.Kinds.{HasKind}
 use Rattle.clap.specs.Simple.{App, is_simple, matches_of}
 use Rattle.clap.specs.declared.error.Error.{Error}
 use Rattle.asm_explore_words.specs.CommandLine.{random_refusals}
-use Rattle.asm_explore_words.proofs.RandomOptions.{is_free, is_plain, spec, steps, turns, runs, seed}
+use Rattle.asm_explore_words.proofs.RandomOptions.{is_free, is_plain, numbers, seed, spec}
 use Rattle.asm_explore_words.proofs.random_words.random_given.Goals as goal
 
 pub returns-in_err-given-clause-refused : goal.returns-in_err-given-clause-refused
@@ -32,8 +32,6 @@ returns-clause-parsed g c =
     record {
       rows = (c.in_ok-given.ensures.matches (ap is_simple is ∙ is_plain)).0 ∙ ap (λ app. matches_of app words) is;
       spec = spec c.in_ok-command.command m p is;
-      steps = steps c.in_ok-command.command m p is;
-      turns = turns c.in_ok-command.command m p is;
-      runs = runs c.in_ok-command.command m p is;
+      numbers = numbers c.in_ok-command.command m p is;
       seed = seed c.in_ok-command.command m p is;
     }

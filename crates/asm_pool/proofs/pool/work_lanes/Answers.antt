@@ -26,14 +26,13 @@ close-requires-clause-parts g c = c.in_ok-workers.ensures.worked.parts ∙ (sym 
 pub close-requires-clause-seat : goal.close-requires-clause-seat
 close-requires-clause-seat g c = c.in_ok-workers.ensures.table
 
-pub returns-clause-once : goal.returns-clause-once
-returns-clause-once g c =
+pub returns : goal.returns
+returns g c =
     let table = c.in_ok-lanes.lanes in
-    all-worked (IsRun (g.J.Job.takes_hand c.args.job.now) (g.J.Job.runs c.args.job.now)) table.shape.lanes table.shape.count c.args.count c.args.hands.items c.in_ok-workers.workers.items c.in_ok-workers.seat.me.0 table.some.0 c.in_ok-lanes.ensures.shape.1
-    c.close.ensures c.in_ok-workers.ensures.worked
-
-pub returns-clause-fit : goal.returns-clause-fit
-returns-clause-fit g c = c.in_ok-workers.ensures.fit
-
-pub returns-clause-hands : goal.returns-clause-hands
-returns-clause-hands g c = c.in_ok-workers.ensures.worked.ran
+    let worked = c.in_ok-workers.ensures in
+    record {
+      once = all-worked (IsRun (g.J.Job.takes_hand c.args.job.now) (g.J.Job.runs c.args.job.now)) table.shape.lanes table.shape.count c.args.count c.args.hands.items c.in_ok-workers.workers.items c.in_ok-workers.seat.me.0 table.some.0 c.in_ok-lanes.ensures.shape.1
+          c.close.ensures worked.worked;
+      fit = worked.fit;
+      hands = worked.worked.ran;
+    }

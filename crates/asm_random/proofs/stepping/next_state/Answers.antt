@@ -1,5 +1,5 @@
-use Rattle.std.proofs.Common.{◌≡◌, [], refl, sym, subst}
-use Rattle.asm_state.specs.Signature.{Shape, state_of}
+use Rattle.std.proofs.Common.{◌≡◌, ◌∙◌, [], ap, refl, sym, subst}
+use Rattle.asm_state.specs.Signature.{Shape, count_of, state_of}
 use Rattle.asm_syntax.specs.code.Views.{spec_of}
 use Rattle.asm_check.specs.Faults.{inits}
 use Rattle.asm_check.specs.Shapes.{shape_of}
@@ -15,8 +15,8 @@ use Rattle.asm_random.proofs.OneStep.{is_exhausted, is_faulty, leads_on}
 use Rattle.asm_random.proofs.BareViews.{nothing_over}
 use Rattle.asm_random.proofs.stepping.next_state.Goals as goal
 
-pub returns-in-Exhausted-clause-wrong : goal.returns-in-Exhausted-clause-wrong
-returns-in-Exhausted-clause-wrong g c =
+pub returns-in-Exhausted : goal.returns-in-Exhausted
+returns-in-Exhausted g c =
     let a = c.args in
     let m = a.specified.now in
     let s = spec_of m.checked.now.spec in
@@ -30,11 +30,15 @@ returns-in-Exhausted-clause-wrong g c =
     let shows : A ≡ state_of shape a.state.now =
     nothing_over signature shape c.new-nothing.result a.state.now A same (c.new-nothing.ensures.empty signature c.count.ensures.sound c.count.ensures.count)
     (λ U stands consistent. c.new-view.ensures.fired U stands consistent) in
-    is_exhausted (specification_of s) m.turns script step shape a.state.now A shows (holds_in shape m.always.now) c.in-Exhausted.field-0
-    (subst (IsFormed shape o) c.in-Exhausted.is c.in_ok-set.ensures)
+    record {
+      whole = tt;
+      step = tt;
+      wrong = is_exhausted (specification_of s) m.turns script step shape a.state.now A shows (holds_in shape m.always.now) c.in-Exhausted.field-0
+          (subst (IsFormed shape o) c.in-Exhausted.is c.in_ok-set.ensures);
+    }
 
-pub returns-then-is_some-clause-wrong : goal.returns-then-is_some-clause-wrong
-returns-then-is_some-clause-wrong g c =
+pub returns-then-is_some : goal.returns-then-is_some
+returns-then-is_some g c =
     let a = c.args in
     let m = a.specified.now in
     let s = spec_of m.checked.now.spec in
@@ -50,12 +54,16 @@ returns-then-is_some-clause-wrong g c =
     (λ U stands consistent. c.new-view.ensures.fired U stands consistent) in
     let formed : IsSet signature o c.in-Set.set c.in-Set.instances =
     subst (λ (sh : Shape). IsSet sh o c.in-Set.set c.in-Set.instances) (sym same) (subst (IsFormed shape o) c.in-Set.is c.in_ok-set.ensures) in
-    subst (λ (sh : Shape). GoesWrong (specification_of s) m.turns script (holds_in shape m.always.now) step (state_of sh a.state.now) fault.Inconsistent) same
-    (is_faulty (specification_of s) m.turns script step signature a.state.now A shows c.in-Set.set c.in-Set.instances formed c.first_fault.result
-    (holds_in shape m.always.now) (sym c.if-is_some.ensures) c.first_fault.ensures.first)
+    record {
+      whole = tt;
+      step = tt;
+      wrong = subst (λ (sh : Shape). GoesWrong (specification_of s) m.turns script (holds_in shape m.always.now) step (state_of sh a.state.now) fault.Inconsistent) same
+          (is_faulty (specification_of s) m.turns script step signature a.state.now A shows c.in-Set.set c.in-Set.instances formed c.first_fault.result
+          (holds_in shape m.always.now) (sym c.if-is_some.ensures) c.first_fault.ensures.first);
+    }
 
-pub returns-clause-step : goal.returns-clause-step
-returns-clause-step g c =
+pub returns : goal.returns
+returns g c =
     let a = c.args in
     let m = a.specified.now in
     let s = spec_of m.checked.now.spec in
@@ -71,6 +79,10 @@ returns-clause-step g c =
     (λ U stands consistent. c.new-view.ensures.fired U stands consistent) in
     let formed : IsSet signature o c.in-Set.set c.in-Set.instances =
     subst (λ (sh : Shape). IsSet sh o c.in-Set.set c.in-Set.instances) (sym same) (subst (IsFormed shape o) c.in-Set.is c.in_ok-set.ensures) in
-    subst (λ (sh : Shape). IsStep (specification_of s) m.turns script step (state_of sh a.state.now) (state_of sh c.in_ok-next.next)) same
-    (leads_on (specification_of s) m.turns script step signature a.state.now A shows c.in-Set.set c.in-Set.instances formed c.first_fault.result
-    c.in_ok-next.next (sym c.if-is_some.ensures) c.first_fault.ensures.consistent (λ U stands good. c.in_ok-next.ensures.fired U stands good))
+    record {
+      whole = c.in_ok-next.ensures.whole ∙ ap count_of same;
+      step = subst (λ (sh : Shape). IsStep (specification_of s) m.turns script step (state_of sh a.state.now) (state_of sh c.in_ok-next.next)) same
+          (leads_on (specification_of s) m.turns script step signature a.state.now A shows c.in-Set.set c.in-Set.instances formed c.first_fault.result
+          c.in_ok-next.next (sym c.if-is_some.ensures) c.first_fault.ensures.consistent (λ U stands good. c.in_ok-next.ensures.fired U stands good));
+      wrong = tt;
+    }

@@ -22,7 +22,7 @@ returns-then-is_empty c shape o is =
 
 pub returns : goal.returns
 returns c shape o is = record {
-  count = c.in_ok-union.ensures.count;
+  count = c.in_ok-union.ensures.changes.count;
   path = refl;
   formed = record {
     set = is.set;

@@ -31,19 +31,19 @@ returns-clause-formed g c =
     let script = g.P.Picks.script c.args.choices.now.script.now in
     let step = c.args.choices.now.step in
     let A = shown c.new-view.result in
-    let p = c.clear-2.new.self.items in
+    let p = c.clear.new.self.path.items in
     let R = main_rule s (inits s) in
     let counted = c.requires.sized.set_fits ∙ ap count_of (sym shaped) in
     let o : Outcome = does (program_of s) m.turns script step A nothing_bound p R in
     let means = subst (λ (shape : Shape). meaning shape m.turns (pick script step) code [] [] A p ≡ o) (sym (viewed ∙ shaped)) (c.resolving_laws.ensures.means s R code m.turns script step A p c.requires.main) in
     let followed = follows_same c.new-view.result.signature.now c.form.result _ _ _ _ means c.form.ensures in
     on_ok_weaker c.form.result
-    (λ forms. formed_alone s shape m.turns script step c.args.state.now A nothing c.clear.new.self c.form.new.forming.set 0 c.form.new.forming.instances nothing_bound p R shaped
+    (λ forms. formed_alone s shape m.turns script step c.args.state.now A nothing c.clear.new.self.set c.form.new.forming.set c.clear.new.self.instances c.form.new.forming.instances nothing_bound p R shaped
     c.new-view.ensures.fired
     (c.new-nothing.ensures.empty shape c.count.ensures.sound c.count.ensures.count)
     (c.clear.ensures.empty shape c.count.ensures.sound counted)
-    refl refl c.clear-2.ensures.items refl
-    (subst (λ v. Forms v o c.clear.new.self c.form.new.forming.set 0 c.form.new.forming.instances) viewed forms))
+    c.clear.ensures.instances refl c.clear.ensures.path refl
+    (subst (λ v. Forms v o c.clear.new.self.set c.form.new.forming.set c.clear.new.self.instances c.form.new.forming.instances) viewed forms))
     followed.formed
 
 pub returns-clause-exhausted : goal.returns-clause-exhausted
@@ -57,12 +57,12 @@ returns-clause-exhausted g c =
     let script = g.P.Picks.script c.args.choices.now.script.now in
     let step = c.args.choices.now.step in
     let A = shown c.new-view.result in
-    let p = c.clear-2.new.self.items in
+    let p = c.clear.new.self.path.items in
     let R = main_rule s (inits s) in
     let o : Outcome = does (program_of s) m.turns script step A nothing_bound p R in
     let means = subst (λ (shape : Shape). meaning shape m.turns (pick script step) code [] [] A p ≡ o) (sym (viewed ∙ shaped)) (c.resolving_laws.ensures.means s R code m.turns script step A p c.requires.main) in
     let followed = follows_same c.new-view.result.signature.now c.form.result _ _ _ _ means c.form.ensures in
     stopped_alone c.form.result _ _ c.form.new.forming.path.items
     (outcome_alone s shape m.turns script step c.args.state.now A c.new-nothing.result nothing_bound p R shaped c.new-view.ensures.fired
-    (c.new-nothing.ensures.empty shape c.count.ensures.sound c.count.ensures.count) refl c.clear-2.ensures.items refl)
+    (c.new-nothing.ensures.empty shape c.count.ensures.sound c.count.ensures.count) refl c.clear.ensures.path refl)
     followed.exhausted

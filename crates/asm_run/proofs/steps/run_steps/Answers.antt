@@ -8,10 +8,10 @@ use Rattle.asm_run.proofs.steps.run_steps.Goals as goal
 pub loop-done-init : goal.loop-done-init
 loop-done-init g c =
     let shaped : c.signature-signature.result.now ≡ shape_of (spec_of c.args.resolved.now.checked.now.spec) = c.signature-signature.ensures in (
-      begins (spec_of c.args.resolved.now.checked.now.spec) c.args.resolved.now.turns (g.P.Picks.script c.args.script.now) c.args.steps c.in_ok-state.state c.new.result.count (g.S.Sink.bytes c.args.out.now) (g.S.Sink.has_failed c.args.out.now)
+      begins (spec_of c.args.resolved.now.checked.now.spec) c.args.resolved.now.turns (g.P.Picks.script c.args.script.now) c.args.steps c.in_ok-state.state c.new-forming.result.set.count (g.S.Sink.bytes c.args.out.now) (g.S.Sink.has_failed c.args.out.now)
           (record {
             contents_fit = rw shaped at c.in_ok-state.ensures.whole;
-            set_fits = rw shaped at (c.new.ensures.count ∙ c.count.ensures.count);
+            set_fits = rw shaped at c.new-forming.ensures.count;
           })
           (rw shaped at c.in_ok-state.ensures.initial) c.requires.open,
       rw c.new-texts.ensures (λ n. inl refl),

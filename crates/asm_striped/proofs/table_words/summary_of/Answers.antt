@@ -18,7 +18,7 @@ loop-n-preserved c =
       | in-Some+in_ok-add w ↦ record {
         filled = subst (IsFilled words (n + 1) c.args.count) (sym w.summary-is)
             (filled_add words n c.args.count c.word-low.result c.word-high.result c.loop-n.summary c.loop-n.invariant.filled c.word-low.ensures c.word-high.ensures
-            _ w.in-Some.bounds w.in-Some.ensures.words w.add.ensures.count w.in_ok-add.ensures.entries);
+            _ w.in-Some.bounds w.in-Some.ensures.words w.add.ensures.changes.count w.in_ok-add.ensures.changes.entries);
         marks = λ shape. subst (MarksFaults shape) (sym w.summary-is) (w.in_ok-add.ensures.marks shape);
       }
       | in_default w ↦ record {

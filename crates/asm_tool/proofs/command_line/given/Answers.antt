@@ -10,7 +10,7 @@ use Rattle.asm_tool.specs.declared.settings.WordFault.TheVariants.{Memory, Words
 use Rattle.asm_tool.specs.WordsSaid.{Explains, IsFaultOf}
 use Rattle.std.proofs.lemmas.Result.{err_from_is_err_and}
 use Rattle.clap.specs.Simple.{is_simple, matches_of}
-use Rattle.asm_tool.proofs.Options.{is_free, is_plain, steps, turns, workers, cut, rounds}
+use Rattle.asm_tool.proofs.Options.{is_free, is_plain, numbers}
 use Rattle.asm_tool.proofs.command_line.given.Goals as goal
 
 explained : (words : List Text) (error : Error) (fault : WordFault) → IsFaultOf error fault → HasKind (refusals words) error → Explains words fault
@@ -48,9 +48,5 @@ returns-clause-parsed g c =
     let p = c.in_ok-try_get_matches_from.ensures.parsed in
     record {
       rows = (c.in_ok-try_get_matches_from.ensures.matches (ap is_simple is ∙ is_plain)).0 ∙ ap (λ app. matches_of app words) is;
-      steps = steps c.in_ok-command.field-0 m p is;
-      turns = turns c.in_ok-command.field-0 m p is;
-      workers = workers c.in_ok-command.field-0 m p is;
-      cut = cut c.in_ok-command.field-0 m p is;
-      rounds = rounds c.in_ok-command.field-0 m p is;
+      numbers = numbers c.in_ok-command.field-0 m p is;
     }

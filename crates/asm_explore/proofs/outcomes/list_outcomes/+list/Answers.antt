@@ -1,7 +1,6 @@
-mod Made
 mod Refusals
-use Rattle.std.proofs.Common.{◌≡◌, ◌<◌, ◌≤◌, [], ◌∷◌, ◌++◌, drop, ◌-◌, ◌+◌, suc, true, false, cond, Some, rules, sym, ap, subst, ◌∙◌, arith, length, map, refl}
-use Rattle.std.specs.Prelude.{option_map, IfErr}
+use Rattle.std.proofs.Common.{◌≡◌, ◌<◌, ◌≤◌, [], ◌++◌, drop, ◌-◌, ◌+◌, suc, true, false, cond, Some, rules, sym, ap, subst, ◌∙◌, arith, length, map, refl}
+use Rattle.std.specs.Prelude.{option_map, IfErr, Ok}
 use Rattle.asm_state.specs.Signature.{count_of}
 use Rattle.asm_state.specs.Words.{value_of_code}
 use Rattle.asm_meaning.specs.Does.{nothing}
@@ -13,183 +12,151 @@ use Rattle.asm_code.specs.code.RuleMeaning.{meaning}
 use Rattle.asm_code.specs.code.RuleTree as tree
 use Rattle.asm_code.specs.code.RuleViews.{target_code_of, rule_of, rules_of}
 use Rattle.asm_eval.specs.code.Frames.{readings_of}
-use Rattle.asm_eval.specs.code.Evaluation.{frame_locations, passes_in}
-use Rattle.asm_explore.specs.code.ExploredRules.{exploration_shape, exploration_state, yields_on, here_on, in_order_on, made_on, makes_on, parts_made_on, order_made_on}
+use Rattle.asm_eval.specs.code.Evaluation.{frame_locations}
+use Rattle.asm_explore.specs.code.ExploredRules.{exploration_shape, exploration_state, yields_on, here_on, in_order_on, made_on, makes_on, order_made_on}
 use Rattle.asm_explore.specs.code.OutcomeLists.{picked, HaveChoices, Lists, AreCounted, IsCounted}
 use Rattle.asm_explore.specs.code.ChoicesMade.{made, AreMade, IsWay}
 use Rattle.asm_explore.specs.code.ChoicesMadeSoFar.{MadeSoFar, MakesOfAll, MakesTo}
 use Rattle.asm_explore.specs.code.ChoicePaths.{LieBelow, IsPlacedFrom, IsPlacedBefore}
-use Rattle.asm_explore.specs.code.OverLimit.{IsAmong, AreDifferent, TakesBefore, Refuses}
+use Rattle.asm_explore.specs.code.OverLimit.{AreDifferent, TakesBefore, Refuses}
 use Rattle.asm_explore.specs.code.ChoiceLists.{choice_lists}
-use Rattle.asm_explore.proofs.OutcomeLemmas.OverLimit.{refuses_on, one_differs, joined_differs, picked_differs, picked_takes, sorted_differs, front_begin, front_next, front_one, front_end, begun_differs, done_differs, closed_differs, ok_differs}
+use Rattle.asm_explore.proofs.OutcomeLemmas.OverLimit.{refuses_on, one_differs, joined_differs, picked_differs, picked_takes, sorted_differs, front_begin, front_next, front_end, begun_differs, done_differs, closed_differs}
 use Rattle.asm_explore.specs.code.Sequences.{BothHave, HasSet, Underway, Next, StepsTo}
 use Rattle.asm_explore.proofs.ChoiceLemmas.ChoicesCarried.{have_added}
 use Rattle.asm_explore.proofs.CodeLists.{sound_part, size_of_part, universe_here}
 use Rattle.asm_explore.proofs.CodeRules.{par_tree, seq_tree, if_tree, let_tree, forall_tree, choose_tree, iterate_tree, call_tree}
 use Rattle.asm_explore.proofs.OutcomeLemmas.ListLemmas.{lists_same, each_at}
-use Rattle.asm_explore.proofs.ChoiceLemmas.MadeChoices.{none_made, have_made, ok_made, joined_made, picked_made}
-use Rattle.asm_explore.proofs.ChoiceLemmas.MadeInOrder.{begun_made, next_made_none, one_made, part_refused, sorted_refused}
+use Rattle.asm_explore.proofs.ChoiceLemmas.MadeChoices.{none_made, have_made, joined_made, picked_made}
+use Rattle.asm_explore.proofs.ChoiceLemmas.MadeInOrder.{begun_made, next_made_none, one_made}
 use Rattle.asm_explore.proofs.ChoiceLemmas.ChoicesMade as makings
-use Rattle.asm_explore.proofs.ChoiceLemmas.ChoicesMade.{ok_tree, refused_tree}
-use Rattle.asm_explore.proofs.ChoiceLemmas.ChoicePaths.{placed_none, placed_part, placed_in, from_none, from_later, before_later, have_weaker, ok_have}
-use Rattle.asm_explore.proofs.OutcomeLemmas.RefusedParts.{err_made, err_part, exit_part, exit_wider, exit_chosen, picked_refused, beside_refused, closed_refused}
-use Rattle.asm_explore.proofs.Elements.{any_first}
+use Rattle.asm_explore.proofs.ChoiceLemmas.ChoicePaths.{placed_none, placed_in, from_none, from_later, before_later, have_weaker}
 use Rattle.asm_explore.proofs.OutcomeLemmas.SequenceOutcomes.{both_begin, both_placed, begun, ended, underway_next, next_none, next_more, next_all, next_one}
-use Rattle.asm_explore.proofs.OutcomeLemmas.RuleOutcomes.{ok_same, no_elements, parts_left, each_left, order_left, turns_left, part_next, part_last, element_next, element_last, is_passing, value_yields, forall_yields, choosing_none, choosing_more, choosing_all, none_yields, skip_yields, assign_is, par_yields, seq_yields, if_is, let_is, forall_is, choose_is, iterate_is, call_is, if_yes, if_no, let_with, call_with, iterate_yields, order_steps, order_ends, turn_steps}
+use Rattle.asm_explore.proofs.OutcomeLemmas.RuleOutcomes.{no_elements, parts_left, each_left, order_left, turns_left, part_next, part_last, element_next, element_last, is_passing, value_yields, forall_yields, choosing_none, choosing_more, choosing_all, none_yields, skip_yields, assign_is, par_yields, seq_yields, if_yes, if_no, let_with, call_with, iterate_yields, order_steps, order_ends, turn_steps}
+use Rattle.asm_explore.specs.code.ListedRules.{ListsOutcomes}
+use Rattle.asm_explore.proofs.OutcomeLemmas.ListedRules.{listed_tree, listed_same, listed_part}
 use Rattle.asm_explore.proofs.outcomes.list_outcomes.+list.Goals as goal
-use Rattle.asm_explore.proofs.outcomes.list_outcomes.+list.Answers.Made as made_answers
 use Rattle.asm_explore.proofs.outcomes.list_outcomes.+list.Answers.Refusals as refusals
 
 -- ---- each kind of rule
 
-pub outcomes-returns-in_ok-found-in-Skip-clause-lists : goal.outcomes-returns-in_ok-found-in-Skip-clause-lists
-outcomes-returns-in_ok-found-in-Skip-clause-lists t c =
+pub outcomes-returns-in_ok-found-in-Skip : goal.outcomes-returns-in_ok-found-in-Skip
+outcomes-returns-in_ok-found-in-Skip t c =
     let a = c.args in
-    lists_same (exploration_shape a.exploration.now) (λ s. nothing.result) (yields_on a.exploration.now a.frame.now a.path.now (rule_of a.rule.now)) c.in_ok-found-in-Skip.found.items
-    (skip_yields a.exploration.now a.frame.now a.path.now a.rule.now c.in-Skip.is) c.in_ok-found-in-Skip.ensures.lists
+    let m = makes_on a.exploration.now a.frame.now a.path.now (rule_of a.rule.now) in
+    record {
+      lists = lists_same (exploration_shape a.exploration.now) (λ s. nothing.result) (yields_on a.exploration.now a.frame.now a.path.now (rule_of a.rule.now)) c.in_ok-found-in-Skip.found.items
+          (skip_yields a.exploration.now a.frame.now a.path.now a.rule.now c.in-Skip.is) c.in_ok-found-in-Skip.ensures.lists;
+      placed = have_weaker (λ cs. cs ≡ []) (LieBelow c.args.path.now) (placed_none c.args.path.now) c.in_ok-found-in-Skip.found.items c.in_ok-found-in-Skip.ensures.choices;
+      differ = one_differs c.args.path.now c.in_ok-found-in-Skip.found.items (omega (arith, c.in_ok-found-in-Skip.ensures.one));
+      made = none_made m c.in_ok-found-in-Skip.found.items c.in_ok-found-in-Skip.ensures.choices;
+      crowded = tt;
+    }
 
-pub outcomes-returns-in_ok-found-in-Skip-clause-placed : goal.outcomes-returns-in_ok-found-in-Skip-clause-placed
-outcomes-returns-in_ok-found-in-Skip-clause-placed t c = have_weaker (λ cs. cs ≡ []) (LieBelow c.args.path.now) (placed_none c.args.path.now) c.in_ok-found-in-Skip.found.items c.in_ok-found-in-Skip.ensures.choices
-
-pub outcomes-returns-in_ok-found-in-Skip-clause-made : goal.outcomes-returns-in_ok-found-in-Skip-clause-made
-outcomes-returns-in_ok-found-in-Skip-clause-made = made_answers.outcomes-returns-in_ok-found-in-Skip-clause-made
-
-pub outcomes-returns-in_ok-found-in-Assign-clause-lists : goal.outcomes-returns-in_ok-found-in-Assign-clause-lists
-outcomes-returns-in_ok-found-in-Assign-clause-lists t c =
+pub outcomes-returns-in_ok-found-in-Assign : goal.outcomes-returns-in_ok-found-in-Assign
+outcomes-returns-in_ok-found-in-Assign t c =
     let a = c.args in
-    lists_same (exploration_shape a.exploration.now) (yields_on a.exploration.now a.frame.now a.path.now (tree.Assign (target_code_of c.in-Assign.place) (code_of c.in-Assign.value))) (yields_on a.exploration.now a.frame.now a.path.now (rule_of a.rule.now)) c.in_ok-found-in-Assign.found.items
-    (assign_is a.exploration.now a.frame.now a.path.now a.rule.now c.in-Assign.place c.in-Assign.value c.in-Assign.is) c.in_ok-found-in-Assign.ensures.lists
+    let m = makes_on a.exploration.now a.frame.now a.path.now (rule_of a.rule.now) in
+    record {
+      lists = lists_same (exploration_shape a.exploration.now) (yields_on a.exploration.now a.frame.now a.path.now (tree.Assign (target_code_of c.in-Assign.place) (code_of c.in-Assign.value))) (yields_on a.exploration.now a.frame.now a.path.now (rule_of a.rule.now)) c.in_ok-found-in-Assign.found.items
+          (assign_is a.exploration.now a.frame.now a.path.now a.rule.now c.in-Assign.place c.in-Assign.value c.in-Assign.is) c.in_ok-found-in-Assign.ensures.lists;
+      placed = have_weaker (λ cs. cs ≡ []) (LieBelow c.args.path.now) (placed_none c.args.path.now) c.in_ok-found-in-Assign.found.items c.in_ok-found-in-Assign.ensures.choices;
+      differ = one_differs c.args.path.now c.in_ok-found-in-Assign.found.items (omega (arith, c.in_ok-found-in-Assign.ensures.one));
+      made = none_made m c.in_ok-found-in-Assign.found.items c.in_ok-found-in-Assign.ensures.choices;
+      crowded = tt;
+    }
 
-pub outcomes-returns-in_ok-found-in-Assign-clause-placed : goal.outcomes-returns-in_ok-found-in-Assign-clause-placed
-outcomes-returns-in_ok-found-in-Assign-clause-placed t c = have_weaker (λ cs. cs ≡ []) (LieBelow c.args.path.now) (placed_none c.args.path.now) c.in_ok-found-in-Assign.found.items c.in_ok-found-in-Assign.ensures.choices
-
-pub outcomes-returns-in_ok-found-in-Assign-clause-made : goal.outcomes-returns-in_ok-found-in-Assign-clause-made
-outcomes-returns-in_ok-found-in-Assign-clause-made = made_answers.outcomes-returns-in_ok-found-in-Assign-clause-made
-
-pub outcomes-returns-in-Par-clause-lists : goal.outcomes-returns-in-Par-clause-lists
-outcomes-returns-in-Par-clause-lists t c =
+pub outcomes-returns-in-Par : goal.outcomes-returns-in-Par
+outcomes-returns-in-Par t c =
     let a = c.args in
-    ok_same (exploration_shape a.exploration.now) _ _ c.list_all.result
+    listed_same a.exploration.now a.path.now _ _ _ _ c.list_all.result
     (par_yields a.exploration.now a.frame.now a.path.now a.rule.now c.in-Par.parts c.in-Par.is c.as_slice.result.now c.as_slice.ensures.value)
-    c.list_all.ensures.lists
+    (λ s. makings.par_makes a.exploration.now a.frame.now a.path.now c.as_slice.result.now s ∙ ap (λ T. makes_on a.exploration.now a.frame.now a.path.now T s) (par_tree a.rule.now c.in-Par.parts c.in-Par.is c.as_slice.result.now c.as_slice.ensures.value))
+    c.list_all.ensures
 
-pub outcomes-returns-in-Par-clause-made : goal.outcomes-returns-in-Par-clause-made
-outcomes-returns-in-Par-clause-made = made_answers.outcomes-returns-in-Par-clause-made
-
-pub outcomes-returns-in-Seq-clause-lists : goal.outcomes-returns-in-Seq-clause-lists
-outcomes-returns-in-Seq-clause-lists t c =
+pub outcomes-returns-in-Seq : goal.outcomes-returns-in-Seq
+outcomes-returns-in-Seq t c =
     let a = c.args in
-    ok_same (exploration_shape a.exploration.now) _ _ c.list_in_order.result
+    listed_same a.exploration.now a.path.now _ _ _ _ c.list_in_order.result
     (seq_yields a.exploration.now a.frame.now a.path.now a.rule.now c.in-Seq.parts c.in-Seq.is c.as_slice-in-Seq.result.now c.as_slice-in-Seq.ensures.value)
-    c.list_in_order.ensures.lists
+    (λ s. makings.seq_makes a.exploration.now a.frame.now a.path.now c.as_slice-in-Seq.result.now s ∙ ap (λ T. makes_on a.exploration.now a.frame.now a.path.now T s) (seq_tree a.rule.now c.in-Seq.parts c.in-Seq.is c.as_slice-in-Seq.result.now c.as_slice-in-Seq.ensures.value))
+    c.list_in_order.ensures
 
-pub outcomes-returns-in-Seq-clause-made : goal.outcomes-returns-in-Seq-clause-made
-outcomes-returns-in-Seq-clause-made = made_answers.outcomes-returns-in-Seq-clause-made
-
-pub outcomes-returns-in-If-clause-lists : goal.outcomes-returns-in-If-clause-lists
-outcomes-returns-in-If-clause-lists t c =
+pub outcomes-returns-in-If : goal.outcomes-returns-in-If
+outcomes-returns-in-If t c =
     let a = c.args in
-    ok_same (exploration_shape a.exploration.now) _ _ c.list_if.result
-    (if_is a.exploration.now a.frame.now a.path.now a.rule.now c.in-If.test c.in-If.yes c.in-If.no c.in-If.is c.deref.result.now c.deref-in-If.result.now c.deref.ensures c.deref-in-If.ensures)
-    c.list_if.ensures.lists
+    listed_tree a.exploration.now a.path.now a.frame.now _ _ c.list_if.result
+    (if_tree a.rule.now c.in-If.test c.in-If.yes c.in-If.no c.in-If.is c.in-If.test c.deref.result.now c.deref-in-If.result.now refl c.deref.ensures c.deref-in-If.ensures)
+    c.list_if.ensures
 
-pub outcomes-returns-in-If-clause-made : goal.outcomes-returns-in-If-clause-made
-outcomes-returns-in-If-clause-made = made_answers.outcomes-returns-in-If-clause-made
-
-pub outcomes-returns-in-Let-clause-lists : goal.outcomes-returns-in-Let-clause-lists
-outcomes-returns-in-Let-clause-lists t c =
+pub outcomes-returns-in-Let : goal.outcomes-returns-in-Let
+outcomes-returns-in-Let t c =
     let a = c.args in
-    ok_same (exploration_shape a.exploration.now) _ _ c.list_let.result
-    (let_is a.exploration.now a.frame.now a.path.now a.rule.now c.in-Let.value c.in-Let.body c.in-Let.is c.deref-in-Let.result.now c.deref-in-Let.ensures)
-    c.list_let.ensures.lists
+    listed_tree a.exploration.now a.path.now a.frame.now _ _ c.list_let.result
+    (let_tree a.rule.now c.in-Let.value c.in-Let.body c.in-Let.is c.in-Let.value c.deref-in-Let.result.now refl c.deref-in-Let.ensures)
+    c.list_let.ensures
 
-pub outcomes-returns-in-Let-clause-made : goal.outcomes-returns-in-Let-clause-made
-outcomes-returns-in-Let-clause-made = made_answers.outcomes-returns-in-Let-clause-made
-
-pub outcomes-returns-in-Forall-clause-lists : goal.outcomes-returns-in-Forall-clause-lists
-outcomes-returns-in-Forall-clause-lists t c =
+pub outcomes-returns-in-Forall : goal.outcomes-returns-in-Forall
+outcomes-returns-in-Forall t c =
     let a = c.args in
-    ok_same (exploration_shape a.exploration.now) _ _ c.list_each.result
-    (forall_is a.exploration.now a.frame.now a.path.now a.rule.now c.in-Forall.over c.in-Forall.test c.in-Forall.body c.in-Forall.is c.deref-in-Forall.result.now c.deref-in-Forall.ensures)
-    c.list_each.ensures.lists
+    listed_tree a.exploration.now a.path.now a.frame.now _ _ c.list_each.result
+    (forall_tree a.rule.now c.in-Forall.over c.in-Forall.test c.in-Forall.body c.in-Forall.is c.in-Forall.test c.deref-in-Forall.result.now refl c.deref-in-Forall.ensures)
+    c.list_each.ensures
 
-pub outcomes-returns-in-Forall-clause-made : goal.outcomes-returns-in-Forall-clause-made
-outcomes-returns-in-Forall-clause-made = made_answers.outcomes-returns-in-Forall-clause-made
-
-pub outcomes-returns-in-Choose-clause-lists : goal.outcomes-returns-in-Choose-clause-lists
-outcomes-returns-in-Choose-clause-lists t c =
+pub outcomes-returns-in-Choose : goal.outcomes-returns-in-Choose
+outcomes-returns-in-Choose t c =
     let a = c.args in
-    ok_same (exploration_shape a.exploration.now) _ _ c.list_choose.result
-    (choose_is a.exploration.now a.frame.now a.path.now a.rule.now c.in-Choose.over c.in-Choose.test c.in-Choose.body c.in-Choose.none c.in-Choose.is c.deref-in-Choose.result.now c.deref-in-Choose-2.result.now c.deref-in-Choose.ensures c.deref-in-Choose-2.ensures)
-    c.list_choose.ensures.lists
+    listed_tree a.exploration.now a.path.now a.frame.now _ _ c.list_choose.result
+    (choose_tree a.rule.now c.in-Choose.over c.in-Choose.test c.in-Choose.body c.in-Choose.none c.in-Choose.is c.in-Choose.test c.deref-in-Choose.result.now c.deref-in-Choose-2.result.now refl c.deref-in-Choose.ensures c.deref-in-Choose-2.ensures)
+    c.list_choose.ensures
 
-pub outcomes-returns-in-Choose-clause-made : goal.outcomes-returns-in-Choose-clause-made
-outcomes-returns-in-Choose-clause-made = made_answers.outcomes-returns-in-Choose-clause-made
-
-pub outcomes-returns-in-Iterate-clause-lists : goal.outcomes-returns-in-Iterate-clause-lists
-outcomes-returns-in-Iterate-clause-lists t c =
+pub outcomes-returns-in-Iterate : goal.outcomes-returns-in-Iterate
+outcomes-returns-in-Iterate t c =
     let a = c.args in
-    ok_same (exploration_shape a.exploration.now) _ _ c.list_turns.result
-    (iterate_is a.exploration.now a.frame.now a.path.now a.rule.now c.in-Iterate.body c.in-Iterate.is c.deref-in-Iterate.result.now c.deref-in-Iterate.ensures)
-    c.list_turns.ensures.lists
+    listed_tree a.exploration.now a.path.now a.frame.now _ _ c.list_turns.result
+    (iterate_tree a.rule.now c.in-Iterate.body c.in-Iterate.is c.deref-in-Iterate.result.now c.deref-in-Iterate.ensures)
+    c.list_turns.ensures
 
-pub outcomes-returns-in-Iterate-clause-made : goal.outcomes-returns-in-Iterate-clause-made
-outcomes-returns-in-Iterate-clause-made = made_answers.outcomes-returns-in-Iterate-clause-made
-
-pub outcomes-returns-in-Call-clause-lists : goal.outcomes-returns-in-Call-clause-lists
-outcomes-returns-in-Call-clause-lists t c =
+pub outcomes-returns-in-Call : goal.outcomes-returns-in-Call
+outcomes-returns-in-Call t c =
     let a = c.args in
-    ok_same (exploration_shape a.exploration.now) _ _ c.list_call.result
-    (call_is a.exploration.now a.frame.now a.path.now a.rule.now c.in-Call.body c.in-Call.answer c.in-Call.arguments c.in-Call.is c.deref-in-Call.result.now c.as_slice-in-Call.result.now c.deref-in-Call.ensures c.as_slice-in-Call.ensures.value)
-    c.list_call.ensures.lists
+    listed_tree a.exploration.now a.path.now a.frame.now _ _ c.list_call.result
+    (call_tree a.rule.now c.in-Call.body c.in-Call.answer c.in-Call.arguments c.in-Call.is c.deref-in-Call.result.now c.in-Call.answer c.as_slice-in-Call.result.now c.deref-in-Call.ensures refl c.as_slice-in-Call.ensures.value)
+    c.list_call.ensures
 
-pub outcomes-returns-in-Call-clause-made : goal.outcomes-returns-in-Call-clause-made
-outcomes-returns-in-Call-clause-made = made_answers.outcomes-returns-in-Call-clause-made
-
-pub list_part-returns-clause-made : goal.list_part-returns-clause-made
-list_part-returns-clause-made = made_answers.list_part-returns-clause-made
-
-pub list_part-returns-then-path-lt-MAX_SHORT_PATH-clause-made : goal.list_part-returns-then-path-lt-MAX_SHORT_PATH-clause-made
-list_part-returns-then-path-lt-MAX_SHORT_PATH-clause-made = made_answers.list_part-returns-then-path-lt-MAX_SHORT_PATH-clause-made
-
-pub list_if-returns-then-holds-clause-lists : goal.list_if-returns-then-holds-clause-lists
-list_if-returns-then-holds-clause-lists t c =
+pub list_part-returns : goal.list_part-returns
+list_part-returns t c =
     let a = c.args in
-    ok_same (exploration_shape a.exploration.now) _ _ c.list_part.result
+    subst (λ q. ListsOutcomes a.exploration.now q (yields_on a.exploration.now a.frame.now q (rule_of a.rule.now)) (makes_on a.exploration.now a.frame.now q (rule_of a.rule.now)) (Ok c.in_ok-found.found))
+    (c.as_slice.ensures.value ∙ c.in_ok-below.ensures) c.in_ok-found.ensures
+
+pub list_part-returns-then-path-lt-MAX_SHORT_PATH : goal.list_part-returns-then-path-lt-MAX_SHORT_PATH
+list_part-returns-then-path-lt-MAX_SHORT_PATH t c =
+    let a = c.args in
+    subst (λ q. ListsOutcomes a.exploration.now q (yields_on a.exploration.now a.frame.now q (rule_of a.rule.now)) (makes_on a.exploration.now a.frame.now q (rule_of a.rule.now)) c.outcomes.result) c.put_path.ensures c.outcomes.ensures
+
+pub list_if-returns-then-holds : goal.list_if-returns-then-holds
+list_if-returns-then-holds t c =
+    let a = c.args in
+    listed_part a.exploration.now a.path.now _ _ _ _ 0 c.list_part.result
     (if_yes a.exploration.now a.frame.now a.path.now a.test.now a.yes.now a.no.now (sym c.holds.ensures ∙ c.if-holds.true))
-    c.list_part.ensures.lists
+    (makings.if_yes a.exploration.now a.frame.now a.path.now a.test.now a.yes.now a.no.now (sym c.holds.ensures ∙ c.if-holds.true))
+    c.list_part.ensures
 
-pub list_if-returns-then-holds-clause-placed : goal.list_if-returns-then-holds-clause-placed
-list_if-returns-then-holds-clause-placed t c = ok_have (LieBelow (at c.args.path.now 0)) (LieBelow c.args.path.now) c.list_part.result (placed_part c.args.path.now 0) c.list_part.ensures.placed
-
-pub list_if-returns-then-holds-clause-made : goal.list_if-returns-then-holds-clause-made
-list_if-returns-then-holds-clause-made = made_answers.list_if-returns-then-holds-clause-made
-
-pub list_if-returns-else-holds-clause-lists : goal.list_if-returns-else-holds-clause-lists
-list_if-returns-else-holds-clause-lists t c =
+pub list_if-returns-else-holds : goal.list_if-returns-else-holds
+list_if-returns-else-holds t c =
     let a = c.args in
-    ok_same (exploration_shape a.exploration.now) _ _ c.list_part-else-holds.result
+    listed_part a.exploration.now a.path.now _ _ _ _ 1 c.list_part-else-holds.result
     (if_no a.exploration.now a.frame.now a.path.now a.test.now a.yes.now a.no.now (sym c.holds.ensures ∙ c.if-holds.false))
-    c.list_part-else-holds.ensures.lists
+    (makings.if_no a.exploration.now a.frame.now a.path.now a.test.now a.yes.now a.no.now (sym c.holds.ensures ∙ c.if-holds.false))
+    c.list_part-else-holds.ensures
 
-pub list_if-returns-else-holds-clause-placed : goal.list_if-returns-else-holds-clause-placed
-list_if-returns-else-holds-clause-placed t c = ok_have (LieBelow (at c.args.path.now 1)) (LieBelow c.args.path.now) c.list_part-else-holds.result (placed_part c.args.path.now 1) c.list_part-else-holds.ensures.placed
-
-pub list_if-returns-else-holds-clause-made : goal.list_if-returns-else-holds-clause-made
-list_if-returns-else-holds-clause-made = made_answers.list_if-returns-else-holds-clause-made
-
-pub list_let-returns-clause-lists : goal.list_let-returns-clause-lists
-list_let-returns-clause-lists t c =
+pub list_let-returns : goal.list_let-returns
+list_let-returns t c =
     let a = c.args in
-    ok_same (exploration_shape a.exploration.now) _ _ c.list_part.result
+    listed_part a.exploration.now a.path.now _ _ _ _ 0 c.list_part.result
     (let_with a.exploration.now a.frame.now a.path.now a.term.now a.body.now (value_of_code c.unbranded_code.result.value) (c.unbranded_code.ensures ∙ c.value-value.ensures))
-    c.list_part.ensures.lists
-
-pub list_let-returns-clause-placed : goal.list_let-returns-clause-placed
-list_let-returns-clause-placed t c = ok_have (LieBelow (at c.args.path.now 0)) (LieBelow c.args.path.now) c.list_part.result (placed_part c.args.path.now 0) c.list_part.ensures.placed
-
-pub list_let-returns-clause-made : goal.list_let-returns-clause-made
-list_let-returns-clause-made = made_answers.list_let-returns-clause-made
+    (makings.let_makes a.exploration.now a.frame.now a.path.now a.term.now a.body.now (value_of_code c.unbranded_code.result.value) (c.unbranded_code.ensures ∙ c.value-value.ensures))
+    c.list_part.ensures
 
 -- ---- parts
 
@@ -237,20 +204,18 @@ list_all-loop-i-preserved t c =
           c.in_ok-more.more.items (joined_made makes (left l.i) c.in_ok-part.part.items l.found.items c.in_ok-more.more.items c.in_ok-more.ensures.chosen c.in_ok-part.ensures.made l.invariant.made);
     }
 
-pub list_all-returns-clause-lists : goal.list_all-returns-clause-lists
-list_all-returns-clause-lists t c =
+pub list_all-returns : goal.list_all-returns
+list_all-returns t c =
     let a = c.args in
     let l = c.loop-i in
     let ends : l.i ≡ 0 = omega (arith, c.loop-i-test.false) in
-    subst (λ i. Lists (exploration_shape a.exploration.now) (parts_left a.exploration.now a.frame.now a.path.now a.parts.now i) l.found.items) ends l.invariant.lists
-
-pub list_all-returns-clause-placed : goal.list_all-returns-clause-placed
-list_all-returns-clause-placed t c =
-    let l = c.loop-i in
-    have_weaker (IsPlacedFrom c.args.path.now l.i) (LieBelow c.args.path.now) (placed_in c.args.path.now (λ k. l.i ≤ k)) l.found.items l.invariant.placed
-
-pub list_all-returns-clause-made : goal.list_all-returns-clause-made
-list_all-returns-clause-made = made_answers.list_all-returns-clause-made
+    record {
+      lists = subst (λ i. Lists (exploration_shape a.exploration.now) (parts_left a.exploration.now a.frame.now a.path.now a.parts.now i) l.found.items) ends l.invariant.lists;
+      placed = have_weaker (IsPlacedFrom c.args.path.now l.i) (LieBelow c.args.path.now) (placed_in c.args.path.now (λ k. l.i ≤ k)) l.found.items l.invariant.placed;
+      differ = l.invariant.differ;
+      made = subst (λ i. HaveChoices (AreMade (makings.parts_left a.exploration.now a.frame.now a.path.now a.parts.now i)) l.found.items) ends l.invariant.made;
+      crowded = tt;
+    }
 
 -- ---- values of a universe
 
@@ -297,25 +262,27 @@ list_each-loop-i-preserved t c =
           c.in_ok-more.more.items (c.in_ok-more.ensures.made (more l.i) l.invariant.made);
     }
 
-pub list_each-returns-clause-lists : goal.list_each-returns-clause-lists
-list_each-returns-clause-lists t c =
+pub list_each-returns : goal.list_each-returns
+list_each-returns t c =
     let a = c.args in
     let l = c.loop-i in
     let us = c.universe-universe.result.now in
     let ends : l.i ≡ 0 = omega (arith, c.loop-i-test.false) in
     let same : universe_at (exploration_shape a.exploration.now) a.over ≡ us = universe_here (exploration_shape a.exploration.now).universes a.over us c.universe-universe.ensures in
     let left = each_left a.exploration.now a.frame.now a.path.now a.over a.test.now a.body.now (length us) in
-    lists_same (exploration_shape a.exploration.now) (left us 0) (yields_on a.exploration.now a.frame.now a.path.now (tree.Forall a.over (option_map code_of a.test.now) (rule_of a.body.now))) l.found.items
-    (λ s. ap (λ ws. left ws 0 s) (sym same) ∙ forall_yields a.exploration.now a.frame.now a.path.now a.over a.test.now a.body.now (length us) (ap length (sym same)) s)
-    (subst (λ i. Lists (exploration_shape a.exploration.now) (left us i) l.found.items) ends l.invariant.lists)
-
-pub list_each-returns-clause-placed : goal.list_each-returns-clause-placed
-list_each-returns-clause-placed t c =
-    let l = c.loop-i in
-    have_weaker (IsPlacedFrom c.args.path.now l.i) (LieBelow c.args.path.now) (placed_in c.args.path.now (λ k. l.i ≤ k)) l.found.items l.invariant.placed
-
-pub list_each-returns-clause-made : goal.list_each-returns-clause-made
-list_each-returns-clause-made = made_answers.list_each-returns-clause-made
+    record {
+      lists = lists_same (exploration_shape a.exploration.now) (left us 0) (yields_on a.exploration.now a.frame.now a.path.now (tree.Forall a.over (option_map code_of a.test.now) (rule_of a.body.now))) l.found.items
+          (λ s. ap (λ ws. left ws 0 s) (sym same) ∙ forall_yields a.exploration.now a.frame.now a.path.now a.over a.test.now a.body.now (length us) (ap length (sym same)) s)
+          (subst (λ i. Lists (exploration_shape a.exploration.now) (left us i) l.found.items) ends l.invariant.lists);
+      placed = have_weaker (IsPlacedFrom c.args.path.now l.i) (LieBelow c.args.path.now) (placed_in c.args.path.now (λ k. l.i ≤ k)) l.found.items l.invariant.placed;
+      differ = l.invariant.differ;
+      made =
+          let left = makings.each_left a.exploration.now a.frame.now a.path.now a.over a.test.now a.body.now (length us) in
+          have_made (left us 0) (makes_on a.exploration.now a.frame.now a.path.now (tree.Forall a.over (option_map code_of a.test.now) (rule_of a.body.now)))
+          (λ s. ap (λ ws. left ws 0 s) (sym same) ∙ makings.forall_makes a.exploration.now a.frame.now a.path.now a.over a.test.now a.body.now (length us) (ap length (sym same)) s)
+          l.found.items (subst (λ i. HaveChoices (AreMade (left us i)) l.found.items) ends l.invariant.made);
+      crowded = tt;
+    }
 
 pub list_element-returns-in_ok-found-clause-lists : goal.list_element-returns-in_ok-found-clause-lists
 list_element-returns-in_ok-found-clause-lists t c = λ o lists.
@@ -329,7 +296,11 @@ pub list_element-returns-in_ok-found-clause-placed : goal.list_element-returns-i
 list_element-returns-in_ok-found-clause-placed t c = λ later. c.in_ok-found.ensures.placed c.args.number c.in_ok-part.ensures.placed later
 
 pub list_element-returns-in_ok-found-clause-made : goal.list_element-returns-in_ok-found-clause-made
-list_element-returns-in_ok-found-clause-made = made_answers.list_element-returns-in_ok-found-clause-made
+list_element-returns-in_ok-found-clause-made t c = λ m after.
+    let a = c.args in
+    let makes = makes_on a.exploration.now a.frame.now (at a.path.now a.number) (rule_of a.body.now) in
+    have_made (λ s. makes s ++ m s) _ (λ s. ap (λ b. cond b (makes s ++ m s) (m s)) (sym c.if-passes.true ∙ c.passes.ensures)) c.in_ok-found.found.items
+    (joined_made makes m c.in_ok-part.part.items a.after.items c.in_ok-found.found.items c.in_ok-found.ensures.chosen c.in_ok-part.ensures.made after)
 
 pub list_element-returns-else-passes-clause-lists : goal.list_element-returns-else-passes-clause-lists
 list_element-returns-else-passes-clause-lists t c = λ o lists.
@@ -345,23 +316,22 @@ list_element-returns-else-passes-clause-placed t c =
     have_weaker (IsPlacedFrom a.path.now (a.number + 1)) (IsPlacedFrom a.path.now a.number) (from_later a.path.now a.number) a.after.items
 
 pub list_element-returns-else-passes-clause-made : goal.list_element-returns-else-passes-clause-made
-list_element-returns-else-passes-clause-made = made_answers.list_element-returns-else-passes-clause-made
+list_element-returns-else-passes-clause-made t c = λ m after.
+    let a = c.args in
+    let makes = makes_on a.exploration.now a.frame.now (at a.path.now a.number) (rule_of a.body.now) in
+    have_made m _ (λ s. ap (λ b. cond b (makes s ++ m s) (m s)) (sym c.if-passes.false ∙ c.passes.ensures)) a.after.items after
 
 -- ---- candidates
 
-pub list_choose-returns-then-all-eq0-clause-lists : goal.list_choose-returns-then-all-eq0-clause-lists
-list_choose-returns-then-all-eq0-clause-lists t c =
+pub list_choose-returns-then-all-eq0 : goal.list_choose-returns-then-all-eq0
+list_choose-returns-then-all-eq0 t c =
     let a = c.args in
-    ok_same (exploration_shape a.exploration.now) _ _ c.list_part.result
+    listed_part a.exploration.now a.path.now _ _ _ _ 1 c.list_part.result
     (none_yields a.exploration.now a.frame.now a.path.now a.over a.test.now a.body.now a.none.now c.as_slice-all.result.now (c.as_slice-all.ensures.value ∙ c.in_ok-values.ensures)
     (no_elements c.as_slice-all.result.now c.if-all-eq0.true))
-    c.list_part.ensures.lists
-
-pub list_choose-returns-then-all-eq0-clause-placed : goal.list_choose-returns-then-all-eq0-clause-placed
-list_choose-returns-then-all-eq0-clause-placed t c = ok_have (LieBelow (at c.args.path.now 1)) (LieBelow c.args.path.now) c.list_part.result (placed_part c.args.path.now 1) c.list_part.ensures.placed
-
-pub list_choose-returns-then-all-eq0-clause-made : goal.list_choose-returns-then-all-eq0-clause-made
-list_choose-returns-then-all-eq0-clause-made = made_answers.list_choose-returns-then-all-eq0-clause-made
+    (makings.none_makes a.exploration.now a.frame.now a.path.now a.over a.test.now a.body.now a.none.now c.as_slice-all.result.now (c.as_slice-all.ensures.value ∙ c.in_ok-values.ensures)
+    (no_elements c.as_slice-all.result.now c.if-all-eq0.true))
+    c.list_part.ensures
 
 pub list_choose-loop-k-init : goal.list_choose-loop-k-init
 list_choose-loop-k-init t c =
@@ -393,28 +363,29 @@ list_choose-loop-k-preserved t c =
           c.in_ok-part.part.items l.found.items c.add_part.new.found.items c.in_ok-add_part.ensures.picks.chosen c.in_ok-part.ensures.made l.invariant.made;
     }
 
-pub list_choose-returns-clause-lists : goal.list_choose-returns-clause-lists
-list_choose-returns-clause-lists t c =
+pub list_choose-returns : goal.list_choose-returns
+list_choose-returns t c =
     let a = c.args in
     let l = c.loop-k in
     let some : 0 < length c.as_slice-all.result.now = omega (arith, c.if-all-eq0.false) in
-    choosing_all a.exploration.now a.frame.now a.path.now a.over a.test.now a.body.now a.none.now c.as_slice-all.result.now (c.as_slice-all.ensures.value ∙ c.in_ok-values.ensures)
-    some l.k l.found.items (omega arith) l.invariant.choosing
+    record {
+      lists = choosing_all a.exploration.now a.frame.now a.path.now a.over a.test.now a.body.now a.none.now c.as_slice-all.result.now (c.as_slice-all.ensures.value ∙ c.in_ok-values.ensures)
+          some l.k l.found.items (omega arith) l.invariant.choosing;
+      placed = l.invariant.placed;
+      differ = l.invariant.differ;
+      made = l.invariant.made;
+      crowded = tt;
+    }
 
 -- ---- calls
 
-pub list_call-returns-clause-lists : goal.list_call-returns-clause-lists
-list_call-returns-clause-lists t c =
+pub list_call-returns : goal.list_call-returns
+list_call-returns t c =
     let a = c.args in
-    ok_same (exploration_shape a.exploration.now) _ _ c.list_part.result
+    listed_part a.exploration.now a.path.now _ _ _ _ 0 c.list_part.result
     (call_with a.exploration.now a.frame.now a.path.now a.body.now a.answer.now a.arguments.now c.in_ok-answer.answer c.in_ok-answer.ensures.location)
-    c.list_part.ensures.lists
-
-pub list_call-returns-clause-placed : goal.list_call-returns-clause-placed
-list_call-returns-clause-placed t c = ok_have (LieBelow (at c.args.path.now 0)) (LieBelow c.args.path.now) c.list_part.result (placed_part c.args.path.now 0) c.list_part.ensures.placed
-
-pub list_call-returns-clause-made : goal.list_call-returns-clause-made
-list_call-returns-clause-made = made_answers.list_call-returns-clause-made
+    (makings.call_makes a.exploration.now a.frame.now a.path.now a.body.now a.answer.now a.arguments.now c.in_ok-answer.answer c.in_ok-answer.ensures.location)
+    c.list_part.ensures
 
 -- ---- one after the other
 
@@ -465,18 +436,19 @@ list_in_order-loop-i-preserved t c =
           (makings.order_left a.exploration.now a.frame.now a.path.now a.parts.now l.i) l.sorted.done.items) (sym c.as_slice-front.ensures.value) l.invariant.made);
     }
 
-pub list_in_order-returns-clause-lists : goal.list_in_order-returns-clause-lists
-list_in_order-returns-clause-lists t c =
+pub list_in_order-returns : goal.list_in_order-returns
+list_in_order-returns t c =
     let a = c.args in
     let l = c.loop-i in
-    c.in_ok-found.ensures.lists (exploration_shape a.exploration.now) (exploration_state a.exploration.now) (in_order_on a.exploration.now a.frame.now a.path.now (rules_of (map rule_of a.parts.now))) (order_left a.exploration.now a.frame.now a.path.now a.parts.now l.i)
-    (order_ends a.exploration.now a.frame.now a.path.now a.parts.now l.i (omega arith)) l.invariant.underway
-
-pub list_in_order-returns-clause-placed : goal.list_in_order-returns-clause-placed
-list_in_order-returns-clause-placed t c = c.in_ok-found.ensures.placed (both_placed c.args.path.now c.loop-i.i c.loop-i.sorted c.loop-i.invariant.placed)
-
-pub list_in_order-returns-clause-made : goal.list_in_order-returns-clause-made
-list_in_order-returns-clause-made = made_answers.list_in_order-returns-clause-made
+    record {
+      lists = c.in_ok-found.ensures.lists (exploration_shape a.exploration.now) (exploration_state a.exploration.now) (in_order_on a.exploration.now a.frame.now a.path.now (rules_of (map rule_of a.parts.now))) (order_left a.exploration.now a.frame.now a.path.now a.parts.now l.i)
+          (order_ends a.exploration.now a.frame.now a.path.now a.parts.now l.i (omega arith)) l.invariant.underway;
+      placed = c.in_ok-found.ensures.placed (both_placed c.args.path.now c.loop-i.i c.loop-i.sorted c.loop-i.invariant.placed);
+      differ = closed_differs c.args.path.now c.loop-i.sorted c.in_ok-found.found.items c.loop-i.invariant.differ c.in_ok-found.ensures.chosen;
+      made = have_added (AreMade (order_made_on a.exploration.now a.frame.now a.path.now (rules_of (map rule_of a.parts.now)))) l.sorted c.in_ok-found.found.items
+          c.in_ok-found.ensures.chosen (l.invariant.made.done_made, l.invariant.made.front_made);
+      crowded = tt;
+    }
 
 pub list_turns-loop-turn-init : goal.list_turns-loop-turn-init
 list_turns-loop-turn-init t c =
@@ -498,19 +470,19 @@ list_turns-loop-turn-init t c =
           c.new.result.items c.in_ok-begin.begin.items c.new.ensures.items c.in_ok-begin.ensures.choices c.in_ok-begin.ensures.lists;
     }
 
-pub list_turns-returns-then-waiting-eq0-clause-lists : goal.list_turns-returns-then-waiting-eq0-clause-lists
-list_turns-returns-then-waiting-eq0-clause-lists t c =
+pub list_turns-returns-then-waiting-eq0 : goal.list_turns-returns-then-waiting-eq0
+list_turns-returns-then-waiting-eq0 t c =
     let a = c.args in
     let l = c.loop-turn in
-    ended (exploration_shape a.exploration.now) (exploration_state a.exploration.now) (yields_on a.exploration.now a.frame.now a.path.now (tree.Iterate (rule_of a.body.now)))
-    (turns_left a.exploration.now a.frame.now a.path.now (rule_of a.body.now) (a.exploration.now.turns - l.turn) l.turn) l.sorted.done.items l.sorted.more.items
-    (sym c.as_slice-waiting.ensures.value ∙ no_elements c.as_slice-waiting.result.now c.if-waiting-eq0.true) l.invariant.underway
-
-pub list_turns-returns-then-waiting-eq0-clause-placed : goal.list_turns-returns-then-waiting-eq0-clause-placed
-list_turns-returns-then-waiting-eq0-clause-placed t c = (both_placed c.args.path.now c.loop-turn.turn c.loop-turn.sorted c.loop-turn.invariant.placed).0
-
-pub list_turns-returns-then-waiting-eq0-clause-made : goal.list_turns-returns-then-waiting-eq0-clause-made
-list_turns-returns-then-waiting-eq0-clause-made = made_answers.list_turns-returns-then-waiting-eq0-clause-made
+    record {
+      lists = ended (exploration_shape a.exploration.now) (exploration_state a.exploration.now) (yields_on a.exploration.now a.frame.now a.path.now (tree.Iterate (rule_of a.body.now)))
+          (turns_left a.exploration.now a.frame.now a.path.now (rule_of a.body.now) (a.exploration.now.turns - l.turn) l.turn) l.sorted.done.items l.sorted.more.items
+          (sym c.as_slice-waiting.ensures.value ∙ no_elements c.as_slice-waiting.result.now c.if-waiting-eq0.true) l.invariant.underway;
+      placed = (both_placed c.args.path.now c.loop-turn.turn c.loop-turn.sorted c.loop-turn.invariant.placed).0;
+      differ = done_differs c.args.path.now c.loop-turn.sorted c.loop-turn.invariant.differ;
+      made = c.loop-turn.invariant.made.done_made;
+      crowded = tt;
+    }
 
 pub list_turns-list_next-requires : goal.list_turns-list_next-requires
 list_turns-list_next-requires t c =
@@ -548,21 +520,22 @@ list_turns-loop-turn-preserved t c =
           (sym c.as_slice-front.ensures.value) l.invariant.made);
     }
 
-pub list_turns-returns-clause-lists : goal.list_turns-returns-clause-lists
-list_turns-returns-clause-lists t c =
+pub list_turns-returns : goal.list_turns-returns
+list_turns-returns t c =
     let a = c.args in
     let l = c.loop-turn in
     let R = rule_of a.body.now in
     let past : a.exploration.now.turns - l.turn ≡ 0 = omega (arith, c.loop-turn-test.false) in
-    c.in_ok-found.ensures.lists (exploration_shape a.exploration.now) (exploration_state a.exploration.now) (yields_on a.exploration.now a.frame.now a.path.now (tree.Iterate R))
-    (turns_left a.exploration.now a.frame.now a.path.now R (a.exploration.now.turns - l.turn) l.turn)
-    (λ s B. ap (λ n. turns_left a.exploration.now a.frame.now a.path.now R n l.turn s B) past) l.invariant.underway
-
-pub list_turns-returns-clause-placed : goal.list_turns-returns-clause-placed
-list_turns-returns-clause-placed t c = c.in_ok-found.ensures.placed (both_placed c.args.path.now c.loop-turn.turn c.loop-turn.sorted c.loop-turn.invariant.placed)
-
-pub list_turns-returns-clause-made : goal.list_turns-returns-clause-made
-list_turns-returns-clause-made = made_answers.list_turns-returns-clause-made
+    record {
+      lists = c.in_ok-found.ensures.lists (exploration_shape a.exploration.now) (exploration_state a.exploration.now) (yields_on a.exploration.now a.frame.now a.path.now (tree.Iterate R))
+          (turns_left a.exploration.now a.frame.now a.path.now R (a.exploration.now.turns - l.turn) l.turn)
+          (λ s B. ap (λ n. turns_left a.exploration.now a.frame.now a.path.now R n l.turn s B) past) l.invariant.underway;
+      placed = c.in_ok-found.ensures.placed (both_placed c.args.path.now c.loop-turn.turn c.loop-turn.sorted c.loop-turn.invariant.placed);
+      differ = closed_differs c.args.path.now c.loop-turn.sorted c.in_ok-found.found.items c.loop-turn.invariant.differ c.in_ok-found.ensures.chosen;
+      made = have_added (AreMade (makes_on a.exploration.now a.frame.now a.path.now (tree.Iterate (rule_of a.body.now)))) l.sorted c.in_ok-found.found.items
+          c.in_ok-found.ensures.chosen (l.invariant.made.done_made, l.invariant.made.front_made);
+      crowded = tt;
+    }
 
 pub list_next-loop-i-init : goal.list_next-loop-i-init
 list_next-loop-i-init t c =
@@ -625,7 +598,12 @@ list_one-returns-in_ok-add_part_of_sequence-in-Set-clause-placed t c = λ here b
     c.in_ok-add_part_of_sequence-in-Set.ensures.sorts.placed c.args.path.now c.args.number here c.in_ok-part-in-Set.ensures.placed both
 
 pub list_one-returns-in_ok-add_part_of_sequence-in-Set-clause-made : goal.list_one-returns-in_ok-add_part_of_sequence-in-Set-clause-made
-list_one-returns-in_ok-add_part_of_sequence-in-Set-clause-made = made_answers.list_one-returns-in_ok-add_part_of_sequence-in-Set-clause-made
+list_one-returns-in_ok-add_part_of_sequence-in-Set-clause-made t c = λ total left left_then steps own on so_far.
+    let a = c.args in
+    let upon = c.in_ok-part-in-Set.ensures.upon in
+    one_made (exploration_shape a.exploration.now) a.turns (exploration_state a.exploration.now) (here_on a.exploration.now a.frame.now (at a.path.now a.number) (rule_of a.rule.now))
+    (made_on a.exploration.now a.frame.now (at a.path.now a.number) (rule_of a.rule.now)) total left left_then steps a.one.now c.in-Set.so_far c.in-Set.is upon.state upon.fired own on
+    c.in_ok-part-in-Set.part.items a.sorted.now c.add_part_of_sequence.new.sorted upon.made upon.lists c.in_ok-add_part_of_sequence-in-Set.ensures.sorts so_far
 
 pub list_upon-returns-in_err-found-clause-upon : goal.list_upon-returns-in_err-found-clause-upon
 list_upon-returns-in_err-found-clause-upon t c =
@@ -659,40 +637,10 @@ list_upon-returns-clause-upon t c =
 
 -- ---- that the outcomes differ
 
-pub outcomes-returns-in_ok-found-in-Skip-clause-differ : goal.outcomes-returns-in_ok-found-in-Skip-clause-differ
-outcomes-returns-in_ok-found-in-Skip-clause-differ t c = one_differs c.args.path.now c.in_ok-found-in-Skip.found.items (omega (arith, c.in_ok-found-in-Skip.ensures.one))
-
-pub outcomes-returns-in_ok-found-in-Assign-clause-differ : goal.outcomes-returns-in_ok-found-in-Assign-clause-differ
-outcomes-returns-in_ok-found-in-Assign-clause-differ t c = one_differs c.args.path.now c.in_ok-found-in-Assign.found.items (omega (arith, c.in_ok-found-in-Assign.ensures.one))
-
-pub list_if-returns-then-holds-clause-differ : goal.list_if-returns-then-holds-clause-differ
-list_if-returns-then-holds-clause-differ t c = ok_differs c.args.path.now 0 c.list_part.result c.list_part.ensures.differ
-
-pub list_if-returns-else-holds-clause-differ : goal.list_if-returns-else-holds-clause-differ
-list_if-returns-else-holds-clause-differ t c = ok_differs c.args.path.now 1 c.list_part-else-holds.result c.list_part-else-holds.ensures.differ
-
-pub list_let-returns-clause-differ : goal.list_let-returns-clause-differ
-list_let-returns-clause-differ t c = ok_differs c.args.path.now 0 c.list_part.result c.list_part.ensures.differ
-
-pub list_call-returns-clause-differ : goal.list_call-returns-clause-differ
-list_call-returns-clause-differ t c = ok_differs c.args.path.now 0 c.list_part.result c.list_part.ensures.differ
-
-pub list_choose-returns-then-all-eq0-clause-differ : goal.list_choose-returns-then-all-eq0-clause-differ
-list_choose-returns-then-all-eq0-clause-differ t c = ok_differs c.args.path.now 1 c.list_part.result c.list_part.ensures.differ
-
 pub list_element-returns-in_ok-found-clause-differ : goal.list_element-returns-in_ok-found-clause-differ
 list_element-returns-in_ok-found-clause-differ t c = λ h.
     let a = c.args in
     joined_differs a.path.now a.number c.in_ok-part.part.items a.after.items c.in_ok-found.found.items c.in_ok-part.ensures.differ h c.in_ok-found.ensures.chosen
-
-pub list_in_order-returns-clause-differ : goal.list_in_order-returns-clause-differ
-list_in_order-returns-clause-differ t c = closed_differs c.args.path.now c.loop-i.sorted c.in_ok-found.found.items c.loop-i.invariant.differ c.in_ok-found.ensures.chosen
-
-pub list_turns-returns-clause-differ : goal.list_turns-returns-clause-differ
-list_turns-returns-clause-differ t c = closed_differs c.args.path.now c.loop-turn.sorted c.in_ok-found.found.items c.loop-turn.invariant.differ c.in_ok-found.ensures.chosen
-
-pub list_turns-returns-then-waiting-eq0-clause-differ : goal.list_turns-returns-then-waiting-eq0-clause-differ
-list_turns-returns-then-waiting-eq0-clause-differ t c = done_differs c.args.path.now c.loop-turn.sorted c.loop-turn.invariant.differ
 
 pub list_next-returns-clause-differ : goal.list_next-returns-clause-differ
 list_next-returns-clause-differ t c = λ h.
@@ -711,59 +659,17 @@ list_one-returns-in-Exhausted-clause-differ t c = λ others h. h.1
 
 -- ---- what a refusal says
 
-pub outcomes-returns-in-Par-clause-crowded : goal.outcomes-returns-in-Par-clause-crowded
-outcomes-returns-in-Par-clause-crowded = refusals.outcomes-returns-in-Par-clause-crowded
+pub list_part-returns-in_err-found : goal.list_part-returns-in_err-found
+list_part-returns-in_err-found = refusals.list_part-returns-in_err-found
 
-pub outcomes-returns-in-Seq-clause-crowded : goal.outcomes-returns-in-Seq-clause-crowded
-outcomes-returns-in-Seq-clause-crowded = refusals.outcomes-returns-in-Seq-clause-crowded
+pub list_all-returns-in_err-part : goal.list_all-returns-in_err-part
+list_all-returns-in_err-part = refusals.list_all-returns-in_err-part
 
-pub outcomes-returns-in-If-clause-crowded : goal.outcomes-returns-in-If-clause-crowded
-outcomes-returns-in-If-clause-crowded = refusals.outcomes-returns-in-If-clause-crowded
+pub list_all-returns-in_err-more : goal.list_all-returns-in_err-more
+list_all-returns-in_err-more = refusals.list_all-returns-in_err-more
 
-pub outcomes-returns-in-Let-clause-crowded : goal.outcomes-returns-in-Let-clause-crowded
-outcomes-returns-in-Let-clause-crowded = refusals.outcomes-returns-in-Let-clause-crowded
-
-pub outcomes-returns-in-Forall-clause-crowded : goal.outcomes-returns-in-Forall-clause-crowded
-outcomes-returns-in-Forall-clause-crowded = refusals.outcomes-returns-in-Forall-clause-crowded
-
-pub outcomes-returns-in-Choose-clause-crowded : goal.outcomes-returns-in-Choose-clause-crowded
-outcomes-returns-in-Choose-clause-crowded = refusals.outcomes-returns-in-Choose-clause-crowded
-
-pub outcomes-returns-in-Iterate-clause-crowded : goal.outcomes-returns-in-Iterate-clause-crowded
-outcomes-returns-in-Iterate-clause-crowded = refusals.outcomes-returns-in-Iterate-clause-crowded
-
-pub outcomes-returns-in-Call-clause-crowded : goal.outcomes-returns-in-Call-clause-crowded
-outcomes-returns-in-Call-clause-crowded = refusals.outcomes-returns-in-Call-clause-crowded
-
-pub list_part-returns-in_err-found-clause-crowded : goal.list_part-returns-in_err-found-clause-crowded
-list_part-returns-in_err-found-clause-crowded = refusals.list_part-returns-in_err-found-clause-crowded
-
-pub list_part-returns-then-path-lt-MAX_SHORT_PATH-clause-crowded : goal.list_part-returns-then-path-lt-MAX_SHORT_PATH-clause-crowded
-list_part-returns-then-path-lt-MAX_SHORT_PATH-clause-crowded = refusals.list_part-returns-then-path-lt-MAX_SHORT_PATH-clause-crowded
-
-pub list_if-returns-then-holds-clause-crowded : goal.list_if-returns-then-holds-clause-crowded
-list_if-returns-then-holds-clause-crowded = refusals.list_if-returns-then-holds-clause-crowded
-
-pub list_if-returns-else-holds-clause-crowded : goal.list_if-returns-else-holds-clause-crowded
-list_if-returns-else-holds-clause-crowded = refusals.list_if-returns-else-holds-clause-crowded
-
-pub list_let-returns-clause-crowded : goal.list_let-returns-clause-crowded
-list_let-returns-clause-crowded = refusals.list_let-returns-clause-crowded
-
-pub list_call-returns-clause-crowded : goal.list_call-returns-clause-crowded
-list_call-returns-clause-crowded = refusals.list_call-returns-clause-crowded
-
-pub list_choose-returns-then-all-eq0-clause-crowded : goal.list_choose-returns-then-all-eq0-clause-crowded
-list_choose-returns-then-all-eq0-clause-crowded = refusals.list_choose-returns-then-all-eq0-clause-crowded
-
-pub list_all-returns-in_err-part-clause-crowded : goal.list_all-returns-in_err-part-clause-crowded
-list_all-returns-in_err-part-clause-crowded = refusals.list_all-returns-in_err-part-clause-crowded
-
-pub list_all-returns-in_err-more-clause-crowded : goal.list_all-returns-in_err-more-clause-crowded
-list_all-returns-in_err-more-clause-crowded = refusals.list_all-returns-in_err-more-clause-crowded
-
-pub list_each-returns-in_err-more-clause-crowded : goal.list_each-returns-in_err-more-clause-crowded
-list_each-returns-in_err-more-clause-crowded = refusals.list_each-returns-in_err-more-clause-crowded
+pub list_each-returns-in_err-more : goal.list_each-returns-in_err-more
+list_each-returns-in_err-more = refusals.list_each-returns-in_err-more
 
 pub list_element-returns-in_err-part-clause-crowded : goal.list_element-returns-in_err-part-clause-crowded
 list_element-returns-in_err-part-clause-crowded = refusals.list_element-returns-in_err-part-clause-crowded
@@ -771,23 +677,23 @@ list_element-returns-in_err-part-clause-crowded = refusals.list_element-returns-
 pub list_element-returns-in_err-found-clause-crowded : goal.list_element-returns-in_err-found-clause-crowded
 list_element-returns-in_err-found-clause-crowded = refusals.list_element-returns-in_err-found-clause-crowded
 
-pub list_choose-returns-in_err-part-clause-crowded : goal.list_choose-returns-in_err-part-clause-crowded
-list_choose-returns-in_err-part-clause-crowded = refusals.list_choose-returns-in_err-part-clause-crowded
+pub list_choose-returns-in_err-part : goal.list_choose-returns-in_err-part
+list_choose-returns-in_err-part = refusals.list_choose-returns-in_err-part
 
-pub list_choose-returns-in_err-add_part-clause-crowded : goal.list_choose-returns-in_err-add_part-clause-crowded
-list_choose-returns-in_err-add_part-clause-crowded = refusals.list_choose-returns-in_err-add_part-clause-crowded
+pub list_choose-returns-in_err-add_part : goal.list_choose-returns-in_err-add_part
+list_choose-returns-in_err-add_part = refusals.list_choose-returns-in_err-add_part
 
-pub list_in_order-returns-in_err-next-clause-crowded : goal.list_in_order-returns-in_err-next-clause-crowded
-list_in_order-returns-in_err-next-clause-crowded = refusals.list_in_order-returns-in_err-next-clause-crowded
+pub list_in_order-returns-in_err-next : goal.list_in_order-returns-in_err-next
+list_in_order-returns-in_err-next = refusals.list_in_order-returns-in_err-next
 
-pub list_in_order-returns-in_err-found-clause-crowded : goal.list_in_order-returns-in_err-found-clause-crowded
-list_in_order-returns-in_err-found-clause-crowded = refusals.list_in_order-returns-in_err-found-clause-crowded
+pub list_in_order-returns-in_err-found : goal.list_in_order-returns-in_err-found
+list_in_order-returns-in_err-found = refusals.list_in_order-returns-in_err-found
 
-pub list_turns-returns-in_err-next-clause-crowded : goal.list_turns-returns-in_err-next-clause-crowded
-list_turns-returns-in_err-next-clause-crowded = refusals.list_turns-returns-in_err-next-clause-crowded
+pub list_turns-returns-in_err-next : goal.list_turns-returns-in_err-next
+list_turns-returns-in_err-next = refusals.list_turns-returns-in_err-next
 
-pub list_turns-returns-in_err-found-clause-crowded : goal.list_turns-returns-in_err-found-clause-crowded
-list_turns-returns-in_err-found-clause-crowded = refusals.list_turns-returns-in_err-found-clause-crowded
+pub list_turns-returns-in_err-found : goal.list_turns-returns-in_err-found
+list_turns-returns-in_err-found = refusals.list_turns-returns-in_err-found
 
 pub list_next-returns-in_err-list_one-clause-crowded : goal.list_next-returns-in_err-list_one-clause-crowded
 list_next-returns-in_err-list_one-clause-crowded = refusals.list_next-returns-in_err-list_one-clause-crowded

@@ -6,8 +6,12 @@ pub returns-then-not-may_rest-clause-wrong : goal.returns-then-not-may_rest-clau
 returns-then-not-may_rest-clause-wrong g c =
     (refl, c.new.ensures.items, refl, (c.requires.quiet.0 c.if-not-is_quiet.false, sym c.may_rest.ensures ∙ c.if-not-may_rest.true))
 
-pub returns-clause-rests : goal.returns-clause-rests
-returns-clause-rests g c = (
-  λ dead. absurd (false≢true (sym dead.1 ∙ sym c.may_rest.ensures ∙ c.if-not-may_rest.false)),
-  inl (c.requires.quiet.0 c.if-not-is_quiet.false, c.in_ok-push.ensures.items),
-)
+pub returns-clause-quiet : goal.returns-clause-quiet
+returns-clause-quiet g c = record {
+  rests = (
+    λ dead. absurd (false≢true (sym dead.1 ∙ sym c.may_rest.ensures ∙ c.if-not-may_rest.false)),
+    inl (c.requires.quiet.0 c.if-not-is_quiet.false, c.in_ok-push.ensures.items),
+  );
+  listed = tt;
+  unlisted = tt;
+}

@@ -10,6 +10,6 @@ returns g c =
     let shape = evaluation_shape a.evaluation.now in
     let o = λ (p : List ℕ). rule_at a.evaluation.now a.frame.now p (rule_of a.rule.now) in
     let begun = c.in_ok-forming.ensures in
-    c.outcome_of.ensures shape (o a.path.now)
+    c.into_outcome.ensures shape (o a.path.now)
     (set_from_nothing shape o a.path.now c.in_ok-forming.forming c.form-formed.new.forming c.form-formed.result begun.set begun.count begun.instances begun.path c.form-formed.ensures)
     (stopped_from_nothing shape o a.path.now c.in_ok-forming.forming c.form-formed.new.forming c.form-formed.result begun.set begun.count begun.instances begun.path c.form-formed.ensures)

@@ -16,9 +16,12 @@ invariant_of-self-2 c =
     (AreEntries-put c.self.inside.count _ c.args.n (c.args.value, c.args.value) (subst (λ es. IsDistinct nat_eq (keys_of es)) c.insert.ensures.entries c.insert.ensures.unique)
     (subst (λ (s : SummaryRanges). c.args.n < s.count) (sym c.self.view_is) c.requires) (search rules) before)
 
-pub returns-clause-entries : goal.returns-clause-entries
-returns-clause-entries c = λ k.
-    ap (λ es. first_range es k) c.insert.ensures.entries ∙ found-put _ c.args.n (c.args.value, c.args.value) k ∙ search rules
+pub returns-clause-changes : goal.returns-clause-changes
+returns-clause-changes c = record {
+  count = ap (λ (s : SummaryRanges). s.count) c.self.view_is;
+  entries = λ k. ap (λ es. first_range es k) c.insert.ensures.entries ∙ found-put _ c.args.n (c.args.value, c.args.value) k ∙ search rules;
+  err = tt;
+}
 
 pub returns-clause-merge : goal.returns-clause-merge
 returns-clause-merge c = λ shape U proper first.
