@@ -2,14 +2,12 @@
 -- are opened.
 --     assign_here, seq_here, other_here     what stands of an assignment, of rules in order, and of
 --                                           what is none of the closed ones but `skip`
---     long_some, long_none                  a cut that is no less than a piece's number of
---                                           positions
 --     closed_here                           a piece that isn't opened has a rule that is closed
 --     pieces_here                           what stands of the pieces that a piece is opened to
 --     piece_here                            each of them is all of a rule with fewer nodes
 --     sound_part, size_of_part              a part of sound rules is sound, and has no more nodes
 --                                           than all of them
-use Rattle.std.proofs.Common.{◌≡◌, ℕ, zero, suc, ◌≤◌, ◌<◌, true, List, [], ◌∷◌, length, map, get_or, All, Option, Some, None, sym, ap, subst, ◌∙◌, arith, Box, Vec, Global}
+use Rattle.std.proofs.Common.{◌≡◌, ℕ, zero, suc, ◌≤◌, ◌<◌, true, List, [], ◌∷◌, length, map, get_or, All, sym, ap, subst, ◌∙◌, arith, Box, Vec, Global}
 use Rattle.std.proofs.lemmas.Bool.{false≢true}
 use Rattle.std.proofs.lemmas.List.Elements.{All-get_or}
 use Rattle.asm_reader.specs.declared.picks.Picks.{Ghosts}
@@ -17,10 +15,9 @@ use Rattle.asm_state.specs.Location.{Location, State}
 use Rattle.asm_state.specs.Signature.{Shape}
 use Rattle.asm_meaning.specs.Value.{Reading}
 use Rattle.asm_meaning.specs.Yields.{Path}
-use Rattle.asm_meaning.specs.declared.part.Part.{Part}
 use Rattle.asm_meaning.specs.declared.part.Part.TheVariants as part
 use Rattle.asm_code.specs.code.CodeViews.{code_of}
-use Rattle.asm_code.specs.code.Readings.{reading, universe_at}
+use Rattle.asm_code.specs.code.Readings.{reading}
 use Rattle.asm_code.specs.code.RuleMeaning.{IsSoundRule, AreSoundRules, Locations, target_location, rule_size, rule_sizes}
 use Rattle.asm_code.specs.code.RuleTree as tree
 use Rattle.asm_code.specs.code.RuleViews.{target_code_of, rule_of, rule_step, rules_of}
@@ -35,14 +32,14 @@ use Rattle.asm_code.specs.declared.rule_code.RuleCode.TheFolds.{fold-roll-RuleCo
 use Rattle.asm_eval.specs.code.Frames.{readings_of}
 use Rattle.asm_eval.specs.code.OpenedPieces.{Gives, Opens, OpeningLaws, is_closed, is_closed_part, pieces_in, works_in}
 use Rattle.asm_eval.specs.code.Opening.{part_opened, work_of}
-use Rattle.asm_eval.specs.code.Pieces.{IsPiece, piece_yields, positions}
+use Rattle.asm_eval.specs.code.Pieces.{HasAtMost, IsPiece, all_positions, piece_yields}
 use Rattle.asm_eval.specs.code.Evaluation.{evaluation_choices, frame_locations, evaluation_shape, evaluation_state}
 use Rattle.asm_eval.specs.declared.open.Opened.{Opened}
 use Rattle.asm_eval.specs.declared.open.Opened.TheVariants as opening
 use Rattle.asm_eval.specs.declared.piece.Piece.{Piece}
 use Rattle.asm_eval.specs.declared.evaluation.Evaluation.{Evaluation}
 use Rattle.asm_clash.specs.Standing.{Assigned, assigned_at, order_stands, parts_of, standing}
-use Rattle.asm_clash.specs.code.StandingRules.{IsLong, stands_at}
+use Rattle.asm_clash.specs.code.StandingRules.{stands_at}
 use Rattle.asm_clash.proofs.OpenedRules.{AreBelow, AreOpened, rule_opened, works_stand}
 
 -- ---- the tree of a code
@@ -103,23 +100,6 @@ module _ (shape : Shape) (turns : ℕ) (chosen : Path → ℕ) (l : Location) (r
   unfolding standing
   other_here R closed no_assign no_seq no_iterate = sym (ap stands (is_skip R closed no_assign no_seq no_iterate))
 
--- ---- a cut
-
-module _ (shape : Shape) (R : tree.RuleCode) (its : Part) (whole : its ≡ part.Whole) where
-  long_whole : (R : tree.RuleCode) (o : Option ℕ) (k cut : ℕ) → o ≡ positions shape R part.Whole → o ≡ Some k → k ≤ cut → IsLong shape R cut
-  long_whole (tree.Forall u c P) o k cut is some fits = let so : Some k ≡ Some (length (universe_at shape u)) = sym some ∙ is in grind (arith, so, fits)
-  long_whole R o k cut is some fits = tt
-
-  none_whole : (R : tree.RuleCode) (o : Option ℕ) (cut : ℕ) → o ≡ positions shape R part.Whole → o ≡ None → IsLong shape R cut
-  none_whole (tree.Forall u c P) o cut is none = let so : Some (length (universe_at shape u)) ≡ None = sym is ∙ none in cc
-  none_whole R o cut is none = tt
-
-  pub long_some : (o : Option ℕ) (k cut : ℕ) → o ≡ positions shape R its → o ≡ Some k → k ≤ cut → IsLong shape R cut
-  long_some o k cut is some fits = long_whole R o k cut (is ∙ ap (positions shape R) whole) some fits
-
-  pub long_none : (o : Option ℕ) (cut : ℕ) → o ≡ positions shape R its → o ≡ None → IsLong shape R cut
-  long_none o cut is none = none_whole R o cut (is ∙ ap (positions shape R) whole) none
-
 -- ---- pieces
 
 module _ {P : Type 0} {picks : Ghosts P} (r : Evaluation P picks) (piece : Piece) (whole : piece.part ≡ part.Whole) (cut : ℕ) (o : Opened) (opens : Opens r cut piece o) where
@@ -129,7 +109,7 @@ module _ {P : Type 0} {picks : Ghosts P} (r : Evaluation P picks) (piece : Piece
       subst (Gives r cut (is_closed_part (rule_of piece.rule.now) piece.part) (piece_yields r piece)) none (laws.loses_nothing cut piece o some is opens) in
       subst (λ its. is_closed_part (rule_of piece.rule.now) its ≡ true) whole closed
 
-  module _ (l : Location) (pieces : Vec Piece Global) (n : ℕ) (is : o ≡ opening.Pieces pieces n) (long : IsLong (evaluation_shape r) (rule_of piece.rule.now) cut) where
+  module _ (l : Location) (pieces : Vec Piece Global) (n : ℕ) (is : o ≡ opening.Pieces pieces n) (long : HasAtMost (all_positions (evaluation_shape r) (rule_of piece.rule.now)) cut) where
     abbrev all : List Assigned
     all = stands_at r l piece.frame piece.path (rule_of piece.rule.now)
 

@@ -21,7 +21,7 @@ use Rattle.asm_code.specs.code.Readings.{always, reading, universe_at}
 use Rattle.asm_code.specs.code.RuleMeaning.{Locations, passes, passing, rule_size, rule_sizes}
 use Rattle.asm_code.specs.code.RuleTree.{RuleCode, Skip, Assign, Par, Seq, If, Let, Forall, Choose, Iterate, Call, RuleCodes, no_rules, rule_then}
 use Rattle.asm_eval.specs.code.Opening.{Work, all_of, body_works, choice_works, counted_works, one_work, part_of, part_works, rule_works, span_works, spans}
-use Rattle.asm_clash.specs.code.StandingRules.{IsLong}
+use Rattle.asm_eval.specs.code.Pieces.{HasAtMost, all_positions}
 use Rattle.asm_clash.specs.Standing.{Assigned, each_stands, one_stands, parts_of, parts_stand, standing}
 
 abbrev pub AreBelow : (size : ℕ) → List Work → Type 0
@@ -114,7 +114,7 @@ module _ (shape : Shape) (turns : ℕ) (chosen : Path → ℕ) (l : Location) (A
         ap (λ b. cond b (counted_works (bodies c P rs ls p 0 (between 0 (length us) us))) (to_spans u c P rs ls p)) short ∙ ap (λ vs. counted_works (bodies c P rs ls p 0 vs)) all in
         subst (AreOpened size (bodies_stand c P rs ls p 0 us)) (sym same) (bodies_opened c P rs ls p 0 us, bodies_below c P rs ls p size 0 us low)
 
-    pub rule_opened : (R : RuleCode) (rs : List Reading) (ls : Locations) (p : Path) → IsLong shape R cut
+    pub rule_opened : (R : RuleCode) (rs : List Reading) (ls : Locations) (p : Path) → HasAtMost (all_positions shape R) cut
         → AreOpened (rule_size R) (stands R rs ls p) (rule_works shape A chosen cut R rs ls p)
     unfolding standing
     rule_opened Skip rs ls p long = tt

@@ -20,14 +20,6 @@ use asm_eval::value::value;
 use asm_meaning::{Path, View};
 use std::alloc::{AllocError, Global};
 
-/// The path with these numbers.
-fn path_with(alloc: Global, numbers: &[u64]) -> Result<Path, AllocError>
-    ensures { IfOk result (λ p. p ≡ numbers.now) }
-{
-    let numbers = numbers.to_vec(alloc)?;
-    Ok(Path::new(numbers))
-}
-
 /// The assignment of a term's value to a target, if that is the location with this number.
 pub(crate) fn assigned<'e>(
     alloc: Global,
@@ -52,7 +44,7 @@ pub(crate) fn assigned<'e>(
     if m != n {
         return Ok(found);
     }
-    let path = path_with(alloc, path)?;
+    let path = Path::of(alloc, path)?;
     let value = value(view, frame, term);
     let arguments = arguments_at(alloc, view, frame, place)?;
     let bound = values_bound(alloc, view, frame)?;

@@ -12,7 +12,7 @@ ghost use Rattle.asm_eval.specs.code.Frames.{IsSoundFrame};
 ghost use Rattle.asm_eval.specs.code.Pieces.{IsPiece};
 ghost use Rattle.asm_eval.specs.code.Evaluation.{rule_upon, evaluation_shape, evaluation_state};
 ghost use Rattle.asm_clash.specs.Standing.{later};
-ghost use Rattle.asm_clash.specs.code.StandingRules.{IsLong, IsNext, all_assigned, order_in, stands_at, stands_in};
+ghost use Rattle.asm_clash.specs.code.StandingRules.{IsNext, all_assigned, order_in, stands_at, stands_in};
 
 use crate::assigned::assigned;
 use crate::assignment::Assignment;
@@ -22,11 +22,10 @@ use asm_eval::frame::Frame;
 use asm_eval::laws::opening_laws;
 use asm_eval::open::{Opened, open_piece};
 use asm_eval::piece::{Piece, whole_piece};
-use asm_eval::piece_positions::positions_of;
+use asm_eval::piece_positions::whole_cut;
 use asm_meaning::part_set::PartSet;
 use asm_meaning::{Outcome, Part, Path, View};
 use asm_reader::Picks;
-use asm_state::signature::Signature;
 use asm_updates::summary::Summary;
 use std::alloc::{AllocError, Global};
 
@@ -46,7 +45,7 @@ pub fn standing_in<'e, P: Picks>(
         IfOk result (λ found. all_assigned found.items ≡ stands_at evaluation.now l piece.now.frame piece.now.path (rule_of piece.now.rule.now)) }
 {
     opening_laws::<P>();
-    let cut = cut_of(evaluation.view.signature, piece);
+    let cut = whole_cut(evaluation.view.signature, piece.rule);
     let frame = &piece.frame;
     let path = piece.path.as_slice();
     match open_piece(alloc, evaluation, &*piece, cut)? {
@@ -179,7 +178,7 @@ fn standing_next<'e, P: Picks>(
         IsNext (evaluation_shape evaluation.now) U (rule_upon evaluation.now U frame.now p (rule_of rule.now)).result (stands_in evaluation.now l frame.now p (rule_of rule.now) (fire (evaluation_state evaluation.now) U))
         (all_assigned found.old.items) (all_assigned found.new.items) so_far.new part) }
 {
-    let path = path_below(alloc, path, number)?;
+    let path = Path::below(alloc, path, number)?;
     let piece = Piece {
         rule,
         frame: *frame,
@@ -213,26 +212,4 @@ fn put_later(found: &mut Vec<Assignment>, own: Vec<Assignment>)
         return;
     }
     *found = own;
-}
-
-/// A cut by which all of a rule isn't opened to spans.
-fn cut_of(signature: &Signature, piece: &Piece<'_>) -> usize
-    requires piece { IsPiece signature.now piece.now }
-    requires whole { piece.now.part ≡ part.Whole }
-    ensures some { 0 < result }
-    ensures long { IsLong signature.now (rule_of piece.now.rule.now) result }
-{
-    match positions_of(signature, piece) {
-        Some(positions) => positions.max(1),
-        None => 1,
-    }
-}
-
-/// The path of the part with this number.
-fn path_below(alloc: Global, path: &[u64], number: u64) -> Result<Path, AllocError>
-    ensures { IfOk result (λ p. p ≡ yields.at path.now number) }
-{
-    let mut numbers = path.to_vec(alloc)?;
-    numbers.push(number)?;
-    Ok(Path::new(numbers))
 }

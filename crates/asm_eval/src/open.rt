@@ -1,5 +1,5 @@
 //! Opening pieces of resolved rules.
-ghost use Rattle.std.specs.Prelude.{◌≡◌, ◌-◌, ◌<◌, ◌≤◌, Some, map, option_map, IfOk};
+ghost use Rattle.std.specs.Prelude.{◌-◌, ◌<◌, ◌≤◌, Some, map, option_map, IfOk};
 ghost use Rattle.asm_meaning.specs.code.Intervals.{between};
 ghost use Rattle.asm_meaning.specs.Yields as yields;
 ghost use Rattle.asm_meaning.specs.declared.part.Part.TheVariants as part;
@@ -131,23 +131,6 @@ fn open_rule<'a, P: Picks>(
     }
 }
 
-/// The path of the part with this number.
-fn path_below(alloc: Global, path: &[u64], number: u64) -> Result<Path, AllocError>
-    ensures { IfOk result (λ p. p ≡ yields.at path.now number) }
-{
-    let mut numbers = path.to_vec(alloc)?;
-    numbers.push(number)?;
-    Ok(Path::new(numbers))
-}
-
-/// The path with these numbers.
-fn path_with(alloc: Global, numbers: &[u64]) -> Result<Path, AllocError>
-    ensures { IfOk result (λ p. p ≡ numbers.now) }
-{
-    let numbers = numbers.to_vec(alloc)?;
-    Ok(Path::new(numbers))
-}
-
 /// The one rule beneath another.
 fn open_one<'a, P: Picks>(
     alloc: Global,
@@ -162,7 +145,7 @@ fn open_one<'a, P: Picks>(
     ensures { let shape = evaluation_shape evaluation.now in
         IfOk result (OpensTo evaluation.now (one_work (rule_of rule.now) (readings_of shape frame.entry) (frame_locations shape frame.entry) path.now number)) }
 {
-    let path = path_below(alloc, path, number)?;
+    let path = Path::below(alloc, path, number)?;
     let mut pieces = Vec::new(alloc);
     pieces.push(Piece {
         rule,
@@ -191,7 +174,7 @@ fn open_parts<'a, P: Picks>(
 {
     let mut pieces = Vec::with_capacity(alloc, parts.len())?;
     for i in 0..parts.len() {
-        let path = path_below(alloc, path, i as u64)?;
+        let path = Path::below(alloc, path, i as u64)?;
         pieces.push(Piece {
             rule: &parts[i],
             frame: *frame,
@@ -266,7 +249,7 @@ fn open_spans<'a, P: Picks>(
     let mut next = from;
     while next < to {
         let end = next + cut.min(to - next);
-        let path = path_with(alloc, piece.path.as_slice())?;
+        let path = Path::of(alloc, piece.path.as_slice())?;
         pieces.push(Piece {
             rule: piece.rule,
             frame: piece.frame,
@@ -315,7 +298,7 @@ fn open_bodies<'a, P: Picks>(
             outer: frame,
         };
         if passes(evaluation.view, &bound, test) {
-            let below = path_below(alloc, path, i as u64)?;
+            let below = Path::below(alloc, path, i as u64)?;
             pieces.push(Piece {
                 rule: body,
                 frame: bound,

@@ -1,6 +1,8 @@
 //! How many elements of a `forall` a piece has.
-ghost use Rattle.std.specs.Prelude.{◌≡◌};
-ghost use Rattle.asm_eval.specs.code.Pieces.{IsPiece, positions_in};
+ghost use Rattle.std.specs.Prelude.{◌≡◌, ◌<◌};
+ghost use Rattle.asm_code.specs.code.RuleMeaning.{IsSoundRule};
+ghost use Rattle.asm_code.specs.code.RuleViews.{rule_of};
+ghost use Rattle.asm_eval.specs.code.Pieces.{HasAtMost, IsPiece, all_positions, positions_in};
 
 use crate::piece::Piece;
 use asm_code::rule_code::RuleCode;
@@ -17,5 +19,17 @@ pub fn positions_of(signature: &Signature, piece: &Piece<'_>) -> Option<usize>
         (Part::Span { from, to }, _) => Some(to.saturating_sub(from)),
         (Part::Whole, RuleCode::Forall { over, .. }) => Some(signature.universe(*over).size()),
         (Part::Whole, _) => None,
+    }
+}
+
+/// A cut at which the rule isn't cut to spans.
+pub fn whole_cut(signature: &Signature, rule: &RuleCode) -> usize
+    requires { IsSoundRule signature.now (rule_of rule.now) }
+    ensures some { 0 < result }
+    ensures whole { HasAtMost (all_positions signature.now (rule_of rule.now)) result }
+{
+    match rule {
+        RuleCode::Forall { over, .. } => signature.universe(*over).size().max(1),
+        _ => 1,
     }
 }

@@ -14,7 +14,6 @@ ghost use Rattle.asm_state.specs.declared.value.Value.TheVariants.{Truth, Number
 ghost use Rattle.asm_eval.specs.code.AndChains as conditions;
 ghost use Rattle.asm_eval.specs.code.AndChains.{is_and};
 ghost use Rattle.asm_meaning.specs.Value as spec;
-ghost use Rattle.asm_meaning.specs.code.TermValues.{shown};
 ghost use Rattle.asm_code.specs.code.CodeTree as tree;
 ghost use Rattle.asm_code.specs.code.CodeViews.{code_of, codes_of, link_of, links_of};
 ghost use Rattle.asm_code.specs.code.SoundCodes.{AreCells, AreSoundLinks, IsSound, IsUniverseNumber};

@@ -1,5 +1,5 @@
 //! The exploration of a machine, and its result.
-ghost use Rattle.std.specs.Prelude.{◌≡◌, ◌≢◌, ◌∷◌, ◌<◌, ◌≤◌, ℕ, Some, true, false, IfOk, IfSome, length, slice_get};
+ghost use Rattle.std.specs.Prelude.{◌≡◌, ◌≢◌, ◌∷◌, ◌<◌, ◌≤◌, ℕ, Some, true, IfOk, IfSome, length, slice_get};
 ghost use Rattle.asm_state.specs.code.Contents.{IsStateOf};
 ghost use Rattle.asm_state.specs.Signature.{count_of, state_of};
 ghost use Rattle.asm_explore.specs.declared.exploration_result.Finding.TheVariants as finding;

@@ -4,7 +4,7 @@
 //! of a shortest run that goes wrong. If nothing is known ahead of a step, or one of the states
 //! that it leads to isn't right, the search lists the outcomes of the step itself
 //! (`expand_listed`). So a fault is found in one way, with the choices that lead to it.
-ghost use Rattle.std.specs.Prelude.{◌≡◌, ◌+◌, ◌<◌, ◌≤◌, [], true, false, IsTrue, IfSome, IfNone, IfErr, IfOk, Some, length, slice_get, map, take, drop};
+ghost use Rattle.std.specs.Prelude.{◌≡◌, ◌+◌, ◌^◌, ◌<◌, ◌≤◌, [], true, false, IsTrue, IfSome, IfNone, IfErr, IfOk, Some, length, slice_get, map, take, drop};
 ghost use Rattle.asm_state.specs.code.Contents.{IsStateOf};
 ghost use Rattle.asm_state.specs.Signature.{Shape, count_of, state_of};
 ghost use Rattle.asm_meaning.specs.Yields.{Result as Yielded};
@@ -53,85 +53,21 @@ pub(crate) fn is_same_state(left: &State, right: &State, count: usize) -> bool
     true
 }
 
-/// Makes a state known, which has this hash, that a step from a node leads to. Returns whether it
-/// is right.
-fn reach<M: Machine>(
+/// A search through the states of a machine: `steps` deep, and of `limit` states at most.
+#[derive(Drop)]
+struct Search<'m, M: Machine> {
     alloc: Global,
-    machine: &M,
-    state: &State,
-    hash: u64,
-    from: usize,
-    below: u32,
+    machine: &'m M,
+    steps: u32,
     limit: u32,
-    index: &mut Index,
-    nodes: &mut Nodes,
-) -> Result<bool, SearchError>
-    requires machine { M.is_sound machine.now }
-    requires ready { CanAdd (M.shape machine.now) (M.right machine.now) from below limit nodes.old }
-    requires state { IsStateOf (M.shape machine.now) state.now }
-    requires leads { LeadsTo (M.shape machine.now) (M.specification machine.now) (M.turns machine.now) nodes.old from below (state_of (M.shape machine.now) state.now) }
-    ensures adds { AddsNodes (M.shape machine.now) (M.specification machine.now) (M.turns machine.now) (M.right machine.now) from below limit nodes.old nodes.new result }
-    ensures known { IfOk result (λ fine. IsTrue fine → Known (M.shape machine.now) nodes.new below (state_of (M.shape machine.now) state.now)) }
-    ensures wrong { IfOk result (λ fine. fine ≡ false → (M.right machine.now) (state_of (M.shape machine.now) state.now) ≡ false) }
-{
-    let count = machine.signature().count();
-    if is_reached(nodes, index, hash, state, count) {
-        return Ok(true);
-    }
-    if !machine.is_right(alloc, state) {
-        return Ok(false);
-    }
-    if nodes.len() >= limit as usize {
-        return Err(SearchError::States);
-    }
-    nodes.push(state, count, from as u32, below)?;
-    note_last(alloc, nodes, hash, index)?;
-    Ok(true)
+    ghost in_range: { (steps < 2 ^ 32) × (limit < 2 ^ 32) },
 }
 
-/// Follows one outcome of the step from a node's state. Returns what is wrong with it, if anything
-/// is.
-fn follow<M: Machine>(
-    alloc: Global,
-    machine: &M,
-    from: usize,
-    state: &State,
-    one: &ListedOutcome,
-    below: u32,
-    limit: u32,
-    index: &mut Index,
-    nodes: &mut Nodes,
-) -> Result<Option<Fault>, SearchError>
-    requires machine { M.is_sound machine.now }
-    requires ready { CanAdd (M.shape machine.now) (M.right machine.now) from below limit nodes.old }
-    requires state { IsStateOf (M.shape machine.now) state.now }
-    requires here { (n : Node) → slice_get nodes.old from ≡ Some n → n.state ≡ state.now }
-    requires one { IsCounted (count_of (M.shape machine.now)) one.now.answer }
-    requires outcome { IsOutcome (M.shape machine.now) (M.specification machine.now) (M.turns machine.now) nodes.old from below one.now }
-    requires apart { HaveOwnPaths one.now.choices.items }
-    ensures adds { AddsNodes (M.shape machine.now) (M.specification machine.now) (M.turns machine.now) (M.right machine.now) from below limit nodes.old nodes.new result }
-    ensures leads { IfOk result (λ fault. IfNone fault ((n : Node) (r : Yielded) → slice_get nodes.old from ≡ Some n → Shows (M.shape machine.now) one.now.answer r →
-        LeadsOn r (state_at (M.shape machine.now) n) (Known (M.shape machine.now) nodes.new below))) }
-    ensures wrong { IfOk result (λ fault. IfSome fault (IsBadStep (M.shape machine.now) (M.specification machine.now) (M.turns machine.now) (M.right machine.now) (M.rests machine.now) nodes.old from one.now.choices.items)) }
-{
-    let updates = match &one.answer {
-        RuleResult::Set(updates) => updates,
-        RuleResult::Exhausted(_) => return Ok(Some(Fault::Exhausted)),
-    };
-    let signature = machine.signature();
-    if updates.set.first_fault(signature).is_some() {
-        return Ok(Some(Fault::Inconsistent));
-    }
-    let next = updates.set.fire(alloc, signature, state)?;
-    let hash = hash_of(&next, signature.count());
-    let fine = reach(
-        alloc, machine, &next, hash, from, below, limit, index, nodes,
-    )?;
-    if fine {
-        Ok(None)
-    } else {
-        Ok(Some(Fault::Wrong))
-    }
+/// What a search has reached so far: the nodes, and where each state is among them.
+#[derive(Drop)]
+struct Reached {
+    nodes: Nodes,
+    index: Index,
 }
 
 /// An outcome that goes wrong.
@@ -139,41 +75,6 @@ fn follow<M: Machine>(
 struct BadOutcome {
     number: usize,
     fault: Fault,
-}
-
-/// Follows outcomes of the step from a node's state. Returns the first one with a fault, if there
-/// is one.
-fn follow_all<M: Machine>(
-    alloc: Global,
-    machine: &M,
-    from: usize,
-    state: &State,
-    outcomes: &[ListedOutcome],
-    below: u32,
-    limit: u32,
-    index: &mut Index,
-    nodes: &mut Nodes,
-) -> Result<Option<BadOutcome>, SearchError>
-    requires machine { M.is_sound machine.now }
-    requires ready { CanAdd (M.shape machine.now) (M.right machine.now) from below limit nodes.old }
-    requires state { IsStateOf (M.shape machine.now) state.now }
-    requires here { (n : Node) → slice_get nodes.old from ≡ Some n → n.state ≡ state.now }
-    requires outcomes { AreCounted (count_of (M.shape machine.now)) outcomes.now }
-    requires sound { Each (IsOutcome (M.shape machine.now) (M.specification machine.now) (M.turns machine.now) nodes.old from below) outcomes.now }
-    requires apart { HaveChoices HaveOwnPaths outcomes.now }
-    ensures adds { AddsNodes (M.shape machine.now) (M.specification machine.now) (M.turns machine.now) (M.right machine.now) from below limit nodes.old nodes.new result }
-    ensures leads { IfOk result (λ bad. IfNone bad (FollowsStep (M.shape machine.now) nodes.old nodes.new from below outcomes.now)) }
-    ensures wrong { IfOk result (λ bad. IfSome bad (λ b. (f : ListedOutcome) × (slice_get outcomes.now b.number ≡ Some f) ×
-        IsBadStep (M.shape machine.now) (M.specification machine.now) (M.turns machine.now) (M.right machine.now) (M.rests machine.now) nodes.old from f.choices.items b.fault)) }
-{
-    for k in 0..outcomes.len() {
-        let one = &outcomes[k];
-        let fault = follow(alloc, machine, from, state, one, below, limit, index, nodes)?;
-        if let Some(fault) = fault {
-            return Ok(Some(BadOutcome { number: k, fault }));
-        }
-    }
-    Ok(None)
 }
 
 /// The choices of an outcome.
@@ -191,255 +92,6 @@ fn choices_of(
     Ok(choices)
 }
 
-/// Follows all outcomes of the step from a node's state. Returns the first one with a fault, if
-/// there is one.
-fn expand<M: Machine>(
-    alloc: Global,
-    machine: &M,
-    from: usize,
-    state: &State,
-    outcomes: &[ListedOutcome],
-    limit: u32,
-    index: &mut Index,
-    nodes: &mut Nodes,
-) -> Result<Option<BadStep>, SearchError>
-    requires machine { M.is_sound machine.now }
-    requires ready { CanExpand (M.shape machine.now) (M.right machine.now) from limit state.now nodes.old }
-    requires step { IsStep (M.shape machine.now) (M.specification machine.now) (M.turns machine.now) (state_of (M.shape machine.now) state.now) outcomes.now }
-    ensures { ExpandsNode (M.shape machine.now) (M.specification machine.now) (M.turns machine.now) (M.right machine.now) (M.rests machine.now) (λ _. ⊥) from limit nodes.old nodes.new result }
-{
-    let below = nodes.depth(from) + 1;
-    index.count(outcomes.len());
-    match follow_all(
-        alloc, machine, from, state, outcomes, below, limit, index, nodes,
-    )? {
-        None => Ok(None),
-        Some(bad) => {
-            let choices = choices_of(alloc, outcomes, bad.number)?;
-            Ok(Some(BadStep {
-                from,
-                choices,
-                fault: bad.fault,
-            }))
-        }
-    }
-}
-
-/// Expands a node by the outcomes of its step, and lists it if its state is quiet. Returns what is
-/// wrong with the step, if anything is.
-fn expand_listed<M: Machine>(
-    alloc: Global,
-    machine: &M,
-    from: usize,
-    state: &State,
-    limit: u32,
-    index: &mut Index,
-    nodes: &mut Nodes,
-    quiet: &mut Vec<u32>,
-) -> Result<Option<BadStep>, SearchError>
-    requires machine { M.is_sound machine.now }
-    requires ready { CanExpand (M.shape machine.now) (M.right machine.now) from limit state.now nodes.old }
-    ensures expands { ExpandsNode (M.shape machine.now) (M.specification machine.now) (M.turns machine.now) (M.right machine.now) (M.rests machine.now)
-        (IsOverLimitOf (M.made machine.now) (M.limit machine.now) (state_of (M.shape machine.now) state.now)) from limit nodes.old nodes.new result }
-    ensures quiet { ListsQuiet (M.specification machine.now) (M.turns machine.now) (M.rests machine.now) (state_of (M.shape machine.now) state.now) from quiet.old.items quiet.new.items result }
-{
-    match machine.outcomes(alloc, state) {
-        Ok(outcomes) => {
-            let outcomes = outcomes.as_slice();
-            match expand(alloc, machine, from, state, outcomes, limit, index, nodes)? {
-                None => {
-                    let is_quiet = is_quiet(alloc, machine, state, outcomes)?;
-                    rest(alloc, machine, from, state, is_quiet, quiet)
-                }
-                Some(bad) => Ok(Some(bad)),
-            }
-        }
-        Err(refusal) => Err(halted(alloc, &refusal)),
-    }
-}
-
-/// Makes the state of one of some nodes known, which has this hash and which a step from a node
-/// leads to. Returns whether it is right.
-fn reach_next<M: Machine>(
-    alloc: Global,
-    machine: &M,
-    from: usize,
-    like: &State,
-    states: &Nodes,
-    hash: u64,
-    number: usize,
-    below: u32,
-    limit: u32,
-    index: &mut Index,
-    nodes: &mut Nodes,
-) -> Result<bool, SearchError>
-    requires machine { M.is_sound machine.now }
-    requires ready { CanAdd (M.shape machine.now) (M.right machine.now) from below limit nodes.old }
-    requires like { length like.now ≡ count_of (M.shape machine.now) }
-    requires number { number < length states.now }
-    requires kept { Each (λ m. IsStateOf (M.shape machine.now) m.state) states.now }
-    requires leads { Each (λ m. LeadsTo (M.shape machine.now) (M.specification machine.now) (M.turns machine.now) nodes.old from below (state_at (M.shape machine.now) m)) states.now }
-    ensures adds { AddsNodes (M.shape machine.now) (M.specification machine.now) (M.turns machine.now) (M.right machine.now) from below limit nodes.old nodes.new result }
-    ensures known { IfOk result (λ fine. IsTrue fine → (m : Node) → slice_get states.now number ≡ Some m → Known (M.shape machine.now) nodes.new below (state_at (M.shape machine.now) m)) }
-{
-    if is_there(nodes, index, hash, states, number) {
-        return Ok(true);
-    }
-    let state = states.state(alloc, number, like)?;
-    reach(
-        alloc, machine, &state, hash, from, below, limit, index, nodes,
-    )
-}
-
-/// Makes states known, which have these hashes, that a step from a node leads to. Returns whether
-/// all are right.
-fn reach_all<M: Machine>(
-    alloc: Global,
-    machine: &M,
-    from: usize,
-    like: &State,
-    states: &Nodes,
-    hashes: &[u64],
-    below: u32,
-    limit: u32,
-    index: &mut Index,
-    nodes: &mut Nodes,
-) -> Result<bool, SearchError>
-    requires machine { M.is_sound machine.now }
-    requires ready { CanAdd (M.shape machine.now) (M.right machine.now) from below limit nodes.old }
-    requires like { length like.now ≡ count_of (M.shape machine.now) }
-    requires kept { Each (λ m. IsStateOf (M.shape machine.now) m.state) states.now }
-    requires leads { Each (λ m. LeadsTo (M.shape machine.now) (M.specification machine.now) (M.turns machine.now) nodes.old from below (state_at (M.shape machine.now) m)) states.now }
-    ensures adds { AddsNodes (M.shape machine.now) (M.specification machine.now) (M.turns machine.now) (M.right machine.now) from below limit nodes.old nodes.new result }
-    ensures known { IfOk result (λ fine. IsTrue fine → Each (λ m. Known (M.shape machine.now) nodes.new below (state_at (M.shape machine.now) m)) states.now) }
-{
-    for k in 0..states.len() {
-        let hash = hashes.get(k).copied().unwrap_or(0);
-        if !reach_next(
-            alloc, machine, from, like, states, hash, k, below, limit, index, nodes,
-        )? {
-            return Ok(false);
-        }
-    }
-    Ok(true)
-}
-
-/// Expands a node, of whose step it is known what it leads to, and lists it if its state is quiet.
-/// Returns what is wrong with the step, if anything is.
-fn expand_ahead<M: Machine>(
-    alloc: Global,
-    machine: &M,
-    from: usize,
-    state: &State,
-    ahead: &StepAhead,
-    limit: u32,
-    index: &mut Index,
-    nodes: &mut Nodes,
-    quiet: &mut Vec<u32>,
-) -> Result<Option<BadStep>, SearchError>
-    requires machine { M.is_sound machine.now }
-    requires ready { CanExpand (M.shape machine.now) (M.right machine.now) from limit state.now nodes.old }
-    requires ahead { IsAhead (M.shape machine.now) (M.specification machine.now) (M.turns machine.now) nodes.old (state_of (M.shape machine.now) state.now) ahead.now }
-    ensures expands { ExpandsNode (M.shape machine.now) (M.specification machine.now) (M.turns machine.now) (M.right machine.now) (M.rests machine.now)
-        (IsOverLimitOf (M.made machine.now) (M.limit machine.now) (state_of (M.shape machine.now) state.now)) from limit nodes.old nodes.new result }
-    ensures quiet { ListsQuiet (M.specification machine.now) (M.turns machine.now) (M.rests machine.now) (state_of (M.shape machine.now) state.now) from quiet.old.items quiet.new.items result }
-{
-    let below = nodes.depth(from) + 1;
-    let (states, hashes) = (&ahead.states, ahead.hashes.as_slice());
-    index.count(ahead.outcomes);
-    if reach_all(
-        alloc, machine, from, state, states, hashes, below, limit, index, nodes,
-    )? {
-        rest(alloc, machine, from, state, ahead.is_quiet, quiet)
-    } else {
-        index.uncount(ahead.outcomes);
-        expand_listed(alloc, machine, from, state, limit, index, nodes, quiet)
-    }
-}
-
-/// Expands a node, and lists it if its state is quiet. Returns what is wrong with its step, if
-/// anything is.
-fn expand_step<M: Machine>(
-    alloc: Global,
-    machine: &M,
-    from: usize,
-    state: &State,
-    ahead: &Option<StepAhead>,
-    limit: u32,
-    index: &mut Index,
-    nodes: &mut Nodes,
-    quiet: &mut Vec<u32>,
-) -> Result<Option<BadStep>, SearchError>
-    requires machine { M.is_sound machine.now }
-    requires ready { CanExpand (M.shape machine.now) (M.right machine.now) from limit state.now nodes.old }
-    requires ahead { IfSome ahead.now (IsAhead (M.shape machine.now) (M.specification machine.now) (M.turns machine.now) nodes.old (state_of (M.shape machine.now) state.now)) }
-    ensures expands { ExpandsNode (M.shape machine.now) (M.specification machine.now) (M.turns machine.now) (M.right machine.now) (M.rests machine.now)
-        (IsOverLimitOf (M.made machine.now) (M.limit machine.now) (state_of (M.shape machine.now) state.now)) from limit nodes.old nodes.new result }
-    ensures quiet { ListsQuiet (M.specification machine.now) (M.turns machine.now) (M.rests machine.now) (state_of (M.shape machine.now) state.now) from quiet.old.items quiet.new.items result }
-{
-    match ahead {
-        Some(ahead) => expand_ahead(
-            alloc, machine, from, state, ahead, limit, index, nodes, quiet,
-        ),
-        None => expand_listed(alloc, machine, from, state, limit, index, nodes, quiet),
-    }
-}
-
-/// Expands the nodes from one on, which have these states, of whose steps this is known.
-fn expand_batch<M: Machine>(
-    alloc: Global,
-    machine: &M,
-    first: usize,
-    states: &[State],
-    ahead: &[Option<StepAhead>],
-    steps: u32,
-    limit: u32,
-    index: &mut Index,
-    nodes: &mut Nodes,
-    quiet: &mut Vec<u32>,
-) -> Result<(), SearchSoFar>
-    requires machine { M.is_sound machine.now }
-    requires first { first + length states.now ≤ length nodes.old }
-    requires states { states.now ≡ map (λ n. n.state) (take (length states.now) (drop first nodes.old)) }
-    requires ahead { AreAhead (M.shape machine.now) (M.specification machine.now) (M.turns machine.now) nodes.old states.now ahead.now }
-    requires shallow { Each (λ n. n.depth < steps) (take (length states.now) (drop first nodes.old)) }
-    requires inside { Each (λ n. (M.within machine.now) (state_at (M.shape machine.now) n) ≡ true) (take (length states.now) (drop first nodes.old)) }
-    requires room { length nodes.old ≤ limit }
-    requires looked { IsLooked (M.shape machine.now) (M.specification machine.now) (M.turns machine.now) (M.right machine.now) (M.within machine.now) steps first nodes.old }
-    requires rested { IsRested (M.shape machine.now) (M.specification machine.now) (M.turns machine.now) (M.rests machine.now) (M.within machine.now) steps first nodes.old quiet.old.items }
-    requires near { IsNear nodes.old first }
-    ensures room { length nodes.new ≤ limit }
-    ensures looked { IfOk result (λ _. IsLooked (M.shape machine.now) (M.specification machine.now) (M.turns machine.now) (M.right machine.now) (M.within machine.now) steps (first + length states.now) nodes.new) }
-    ensures rested { IfOk result (λ _. IsRested (M.shape machine.now) (M.specification machine.now) (M.turns machine.now) (M.rests machine.now) (M.within machine.now) steps (first + length states.now) nodes.new quiet.new.items) }
-    ensures near { IfOk result (λ _. IsNear nodes.new (first + length states.now)) }
-    ensures more { length nodes.old ≤ length nodes.new }
-    ensures rests { IfErr result (λ stopped. IsRested (M.shape machine.now) (M.specification machine.now) (M.turns machine.now) (M.rests machine.now) (M.within machine.now) steps stopped.expanded nodes.new quiet.new.items) }
-    ensures stopped { IfErr result (λ stopped. IsStopped (M.shape machine.now) (M.specification machine.now) (M.turns machine.now) (IsOverLimitOf (M.made machine.now) (M.limit machine.now)) (M.right machine.now) (M.rests machine.now) (M.within machine.now) steps limit nodes.new stopped) }
-{
-    for k in 0..states.len() {
-        let from = first + k;
-        let (state, step) = (&states[k], &ahead[k]);
-        match expand_step(
-            alloc, machine, from, state, step, limit, index, nodes, quiet,
-        ) {
-            Ok(None) => {}
-            Ok(Some(bad)) => {
-                return Err(SearchSoFar {
-                    expanded: from,
-                    ended: SearchEnd::BadStep(bad),
-                });
-            }
-            Err(halt) => {
-                return Err(SearchSoFar {
-                    expanded: from,
-                    ended: cut_off(halt),
-                });
-            }
-        }
-    }
-    Ok(())
-}
-
 /// The end of a search whose nodes are all expanded.
 fn ended_all(nodes: &Nodes, steps: u32) -> SearchEnd
     requires { Rises nodes.now }
@@ -452,56 +104,6 @@ fn ended_all(nodes: &Nodes, steps: u32) -> SearchEnd
     } else {
         SearchEnd::AtLimit
     }
-}
-
-/// Expands the next nodes, or passes over the next one if it isn't to be expanded. Returns how many
-/// are done with.
-fn expand_next<M: Machine>(
-    alloc: Global,
-    machine: &M,
-    expanded: usize,
-    like: &State,
-    steps: u32,
-    limit: u32,
-    index: &mut Index,
-    nodes: &mut Nodes,
-    quiet: &mut Vec<u32>,
-) -> Result<usize, SearchSoFar>
-    requires machine { M.is_sound machine.now }
-    requires expanded { expanded < length nodes.old }
-    requires like { length like.now ≡ count_of (M.shape machine.now) }
-    requires room { length nodes.old ≤ limit }
-    requires looked { IsLooked (M.shape machine.now) (M.specification machine.now) (M.turns machine.now) (M.right machine.now) (M.within machine.now) steps expanded nodes.old }
-    requires rested { IsRested (M.shape machine.now) (M.specification machine.now) (M.turns machine.now) (M.rests machine.now) (M.within machine.now) steps expanded nodes.old quiet.old.items }
-    requires near { IsNear nodes.old expanded }
-    ensures room { length nodes.new ≤ limit }
-    ensures some { IfOk result (λ done. (expanded < done) × (done ≤ length nodes.new)) }
-    ensures looked { IfOk result (λ done. IsLooked (M.shape machine.now) (M.specification machine.now) (M.turns machine.now) (M.right machine.now) (M.within machine.now) steps done nodes.new) }
-    ensures rested { IfOk result (λ done. IsRested (M.shape machine.now) (M.specification machine.now) (M.turns machine.now) (M.rests machine.now) (M.within machine.now) steps done nodes.new quiet.new.items) }
-    ensures near { IfOk result (λ done. IsNear nodes.new done) }
-    ensures rests { IfErr result (λ stopped. IsRested (M.shape machine.now) (M.specification machine.now) (M.turns machine.now) (M.rests machine.now) (M.within machine.now) steps stopped.expanded nodes.new quiet.new.items) }
-    ensures stopped { IfErr result (λ stopped. IsStopped (M.shape machine.now) (M.specification machine.now) (M.turns machine.now) (IsOverLimitOf (M.made machine.now) (M.limit machine.now)) (M.right machine.now) (M.rests machine.now) (M.within machine.now) steps limit nodes.new stopped) }
-{
-    let most = index.next_batch(machine.batch());
-    let batch = match next_batch(alloc, machine, nodes, index, expanded, steps, most, like) {
-        Ok(batch) => batch,
-        Err(halt) => {
-            return Err(SearchSoFar {
-                expanded,
-                ended: cut_off(halt),
-            });
-        }
-    };
-    let states = batch.states.as_slice();
-    index.stepped(states.len());
-    if states.len() == 0 {
-        return Ok(expanded + 1);
-    }
-    let ahead = batch.ahead.as_slice();
-    expand_batch(
-        alloc, machine, expanded, states, ahead, steps, limit, index, nodes, quiet,
-    )?;
-    Ok(expanded + states.len())
 }
 
 /// How far the search is, when `done` nodes are done with.
@@ -520,42 +122,404 @@ fn progress(nodes: &Nodes, done: usize) -> Progress
     }
 }
 
-/// Expands all nodes, and those that come of them.
-fn expand_all<M: Machine, W: Watch<Progress>>(
-    alloc: Global,
-    machine: &M,
-    like: &State,
-    steps: u32,
-    limit: u32,
-    index: &mut Index,
-    nodes: &mut Nodes,
-    quiet: &mut Vec<u32>,
-    watch: &mut W,
-) -> SearchSoFar
-    requires machine { M.is_sound machine.now }
-    requires like { length like.now ≡ count_of (M.shape machine.now) }
-    requires room { length nodes.old ≤ limit }
-    requires looked { IsLooked (M.shape machine.now) (M.specification machine.now) (M.turns machine.now) (M.right machine.now) (M.within machine.now) steps 0 nodes.old }
-    requires rested { IsRested (M.shape machine.now) (M.specification machine.now) (M.turns machine.now) (M.rests machine.now) (M.within machine.now) steps 0 nodes.old quiet.old.items }
-    requires near { IsNear nodes.old 0 }
-    ensures rests { IsRested (M.shape machine.now) (M.specification machine.now) (M.turns machine.now) (M.rests machine.now) (M.within machine.now) steps result.expanded nodes.new quiet.new.items }
-    ensures stopped { IsStopped (M.shape machine.now) (M.specification machine.now) (M.turns machine.now) (IsOverLimitOf (M.made machine.now) (M.limit machine.now)) (M.right machine.now) (M.rests machine.now) (M.within machine.now) steps limit nodes.new result }
-{
-    let mut expanded = 0;
-    while expanded < nodes.len() {
-        match expand_next(
-            alloc, machine, expanded, like, steps, limit, index, nodes, quiet,
-        ) {
-            Ok(done) => {
-                expanded = done;
-                watch.tell(progress(nodes, done));
-            }
-            Err(stopped) => return stopped,
+impl<'m, M: Machine> Search<'m, M> {
+    /// Makes a state known, which has this hash, that a step from a node leads to. Returns whether
+    /// it is right.
+    fn reach(
+        &self,
+        reached: &mut Reached,
+        state: &State,
+        hash: u64,
+        from: usize,
+        below: u32,
+    ) -> Result<bool, SearchError>
+        requires machine { M.is_sound self.now.machine.now }
+        requires ready { CanAdd (M.shape self.now.machine.now) (M.right self.now.machine.now) from below self.now.limit reached.old.nodes }
+        requires state { IsStateOf (M.shape self.now.machine.now) state.now }
+        requires leads { LeadsTo (M.shape self.now.machine.now) (M.specification self.now.machine.now) (M.turns self.now.machine.now) reached.old.nodes from below (state_of (M.shape self.now.machine.now) state.now) }
+        ensures adds { AddsNodes (M.shape self.now.machine.now) (M.specification self.now.machine.now) (M.turns self.now.machine.now) (M.right self.now.machine.now) from below self.now.limit reached.old.nodes reached.new.nodes result }
+        ensures known { IfOk result (λ fine. IsTrue fine → Known (M.shape self.now.machine.now) reached.new.nodes below (state_of (M.shape self.now.machine.now) state.now)) }
+        ensures wrong { IfOk result (λ fine. fine ≡ false → (M.right self.now.machine.now) (state_of (M.shape self.now.machine.now) state.now) ≡ false) }
+    {
+        let count = self.machine.signature().count();
+        if is_reached(&reached.nodes, &reached.index, hash, state, count) {
+            return Ok(true);
+        }
+        if !self.machine.is_right(self.alloc, state) {
+            return Ok(false);
+        }
+        if reached.nodes.len() >= self.limit as usize {
+            return Err(SearchError::States);
+        }
+        reached.nodes.push(state, count, from as u32, below)?;
+        note_last(self.alloc, &reached.nodes, hash, &mut reached.index)?;
+        Ok(true)
+    }
+
+    /// Follows one outcome of the step from a node's state. Returns what is wrong with it, if
+    /// anything is.
+    fn follow(
+        &self,
+        reached: &mut Reached,
+        from: usize,
+        state: &State,
+        one: &ListedOutcome,
+        below: u32,
+    ) -> Result<Option<Fault>, SearchError>
+        requires machine { M.is_sound self.now.machine.now }
+        requires ready { CanAdd (M.shape self.now.machine.now) (M.right self.now.machine.now) from below self.now.limit reached.old.nodes }
+        requires state { IsStateOf (M.shape self.now.machine.now) state.now }
+        requires here { (n : Node) → slice_get reached.old.nodes from ≡ Some n → n.state ≡ state.now }
+        requires one { IsCounted (count_of (M.shape self.now.machine.now)) one.now.answer }
+        requires outcome { IsOutcome (M.shape self.now.machine.now) (M.specification self.now.machine.now) (M.turns self.now.machine.now) reached.old.nodes from below one.now }
+        requires apart { HaveOwnPaths one.now.choices.items }
+        ensures adds { AddsNodes (M.shape self.now.machine.now) (M.specification self.now.machine.now) (M.turns self.now.machine.now) (M.right self.now.machine.now) from below self.now.limit reached.old.nodes reached.new.nodes result }
+        ensures leads { IfOk result (λ fault. IfNone fault ((n : Node) (r : Yielded) → slice_get reached.old.nodes from ≡ Some n → Shows (M.shape self.now.machine.now) one.now.answer r →
+            LeadsOn r (state_at (M.shape self.now.machine.now) n) (Known (M.shape self.now.machine.now) reached.new.nodes below))) }
+        ensures wrong { IfOk result (λ fault. IfSome fault (IsBadStep (M.shape self.now.machine.now) (M.specification self.now.machine.now) (M.turns self.now.machine.now) (M.right self.now.machine.now) (M.rests self.now.machine.now) reached.old.nodes from one.now.choices.items)) }
+    {
+        let updates = match &one.answer {
+            RuleResult::Set(updates) => updates,
+            RuleResult::Exhausted(_) => return Ok(Some(Fault::Exhausted)),
+        };
+        let signature = self.machine.signature();
+        if updates.set.first_fault(signature).is_some() {
+            return Ok(Some(Fault::Inconsistent));
+        }
+        let next = updates.set.fire(self.alloc, signature, state)?;
+        let hash = hash_of(&next, signature.count());
+        let fine = self.reach(reached, &next, hash, from, below)?;
+        if fine {
+            Ok(None)
+        } else {
+            Ok(Some(Fault::Wrong))
         }
     }
-    SearchSoFar {
-        expanded,
-        ended: ended_all(nodes, steps),
+
+    /// Follows outcomes of the step from a node's state. Returns the first one with a fault, if
+    /// there is one.
+    fn follow_all(
+        &self,
+        reached: &mut Reached,
+        from: usize,
+        state: &State,
+        outcomes: &[ListedOutcome],
+        below: u32,
+    ) -> Result<Option<BadOutcome>, SearchError>
+        requires machine { M.is_sound self.now.machine.now }
+        requires ready { CanAdd (M.shape self.now.machine.now) (M.right self.now.machine.now) from below self.now.limit reached.old.nodes }
+        requires state { IsStateOf (M.shape self.now.machine.now) state.now }
+        requires here { (n : Node) → slice_get reached.old.nodes from ≡ Some n → n.state ≡ state.now }
+        requires outcomes { AreCounted (count_of (M.shape self.now.machine.now)) outcomes.now }
+        requires sound { Each (IsOutcome (M.shape self.now.machine.now) (M.specification self.now.machine.now) (M.turns self.now.machine.now) reached.old.nodes from below) outcomes.now }
+        requires apart { HaveChoices HaveOwnPaths outcomes.now }
+        ensures adds { AddsNodes (M.shape self.now.machine.now) (M.specification self.now.machine.now) (M.turns self.now.machine.now) (M.right self.now.machine.now) from below self.now.limit reached.old.nodes reached.new.nodes result }
+        ensures leads { IfOk result (λ bad. IfNone bad (FollowsStep (M.shape self.now.machine.now) reached.old.nodes reached.new.nodes from below outcomes.now)) }
+        ensures wrong { IfOk result (λ bad. IfSome bad (λ b. (f : ListedOutcome) × (slice_get outcomes.now b.number ≡ Some f) ×
+            IsBadStep (M.shape self.now.machine.now) (M.specification self.now.machine.now) (M.turns self.now.machine.now) (M.right self.now.machine.now) (M.rests self.now.machine.now) reached.old.nodes from f.choices.items b.fault)) }
+    {
+        for k in 0..outcomes.len() {
+            let one = &outcomes[k];
+            if let Some(fault) = self.follow(reached, from, state, one, below)? {
+                return Ok(Some(BadOutcome { number: k, fault }));
+            }
+        }
+        Ok(None)
+    }
+
+    /// Follows all outcomes of the step from a node's state. Returns the first one with a fault, if
+    /// there is one.
+    fn expand(
+        &self,
+        reached: &mut Reached,
+        from: usize,
+        state: &State,
+        outcomes: &[ListedOutcome],
+    ) -> Result<Option<BadStep>, SearchError>
+        requires machine { M.is_sound self.now.machine.now }
+        requires ready { CanExpand (M.shape self.now.machine.now) (M.right self.now.machine.now) from self.now.limit state.now reached.old.nodes }
+        requires step { IsStep (M.shape self.now.machine.now) (M.specification self.now.machine.now) (M.turns self.now.machine.now) (state_of (M.shape self.now.machine.now) state.now) outcomes.now }
+        ensures { ExpandsNode (M.shape self.now.machine.now) (M.specification self.now.machine.now) (M.turns self.now.machine.now) (M.right self.now.machine.now) (M.rests self.now.machine.now) (λ _. ⊥) from self.now.limit reached.old.nodes reached.new.nodes result }
+    {
+        let below = reached.nodes.depth(from) + 1;
+        reached.index.count(outcomes.len());
+        match self.follow_all(reached, from, state, outcomes, below)? {
+            None => Ok(None),
+            Some(bad) => {
+                let choices = choices_of(self.alloc, outcomes, bad.number)?;
+                Ok(Some(BadStep {
+                    from,
+                    choices,
+                    fault: bad.fault,
+                }))
+            }
+        }
+    }
+
+    /// Expands a node by the outcomes of its step, and lists it if its state is quiet. Returns what
+    /// is wrong with the step, if anything is.
+    fn expand_listed(
+        &self,
+        reached: &mut Reached,
+        from: usize,
+        state: &State,
+        quiet: &mut Vec<u32>,
+    ) -> Result<Option<BadStep>, SearchError>
+        requires machine { M.is_sound self.now.machine.now }
+        requires ready { CanExpand (M.shape self.now.machine.now) (M.right self.now.machine.now) from self.now.limit state.now reached.old.nodes }
+        ensures expands { ExpandsNode (M.shape self.now.machine.now) (M.specification self.now.machine.now) (M.turns self.now.machine.now) (M.right self.now.machine.now) (M.rests self.now.machine.now)
+            (IsOverLimitOf (M.made self.now.machine.now) (M.limit self.now.machine.now) (state_of (M.shape self.now.machine.now) state.now)) from self.now.limit reached.old.nodes reached.new.nodes result }
+        ensures quiet { ListsQuiet (M.specification self.now.machine.now) (M.turns self.now.machine.now) (M.rests self.now.machine.now) (state_of (M.shape self.now.machine.now) state.now) from quiet.old.items quiet.new.items result }
+    {
+        match self.machine.outcomes(self.alloc, state) {
+            Ok(outcomes) => {
+                let outcomes = outcomes.as_slice();
+                match self.expand(reached, from, state, outcomes)? {
+                    None => {
+                        let is_quiet = is_quiet(self.alloc, self.machine, state, outcomes)?;
+                        rest(self.alloc, self.machine, from, state, is_quiet, quiet)
+                    }
+                    Some(bad) => Ok(Some(bad)),
+                }
+            }
+            Err(refusal) => Err(halted(self.alloc, &refusal)),
+        }
+    }
+
+    /// Makes one of the states known to which a step from a node leads. Returns whether it is
+    /// right.
+    fn reach_next(
+        &self,
+        reached: &mut Reached,
+        from: usize,
+        like: &State,
+        ahead: &StepAhead,
+        number: usize,
+        below: u32,
+    ) -> Result<bool, SearchError>
+        requires machine { M.is_sound self.now.machine.now }
+        requires ready { CanAdd (M.shape self.now.machine.now) (M.right self.now.machine.now) from below self.now.limit reached.old.nodes }
+        requires like { length like.now ≡ count_of (M.shape self.now.machine.now) }
+        requires number { number < length ahead.now.states }
+        requires kept { Each (λ m. IsStateOf (M.shape self.now.machine.now) m.state) ahead.now.states }
+        requires leads { Each (λ m. LeadsTo (M.shape self.now.machine.now) (M.specification self.now.machine.now) (M.turns self.now.machine.now) reached.old.nodes from below (state_at (M.shape self.now.machine.now) m)) ahead.now.states }
+        ensures adds { AddsNodes (M.shape self.now.machine.now) (M.specification self.now.machine.now) (M.turns self.now.machine.now) (M.right self.now.machine.now) from below self.now.limit reached.old.nodes reached.new.nodes result }
+        ensures known { IfOk result (λ fine. IsTrue fine → (m : Node) → slice_get ahead.now.states number ≡ Some m → Known (M.shape self.now.machine.now) reached.new.nodes below (state_at (M.shape self.now.machine.now) m)) }
+    {
+        let hash = ahead.hashes.get(number).copied().unwrap_or(0);
+        if is_there(&reached.nodes, &reached.index, hash, &ahead.states, number) {
+            return Ok(true);
+        }
+        let state = ahead.states.state(self.alloc, number, like)?;
+        self.reach(reached, &state, hash, from, below)
+    }
+
+    /// Makes all states known to which a step from a node leads. Returns whether all are right.
+    fn reach_all(
+        &self,
+        reached: &mut Reached,
+        from: usize,
+        like: &State,
+        ahead: &StepAhead,
+        below: u32,
+    ) -> Result<bool, SearchError>
+        requires machine { M.is_sound self.now.machine.now }
+        requires ready { CanAdd (M.shape self.now.machine.now) (M.right self.now.machine.now) from below self.now.limit reached.old.nodes }
+        requires like { length like.now ≡ count_of (M.shape self.now.machine.now) }
+        requires kept { Each (λ m. IsStateOf (M.shape self.now.machine.now) m.state) ahead.now.states }
+        requires leads { Each (λ m. LeadsTo (M.shape self.now.machine.now) (M.specification self.now.machine.now) (M.turns self.now.machine.now) reached.old.nodes from below (state_at (M.shape self.now.machine.now) m)) ahead.now.states }
+        ensures adds { AddsNodes (M.shape self.now.machine.now) (M.specification self.now.machine.now) (M.turns self.now.machine.now) (M.right self.now.machine.now) from below self.now.limit reached.old.nodes reached.new.nodes result }
+        ensures known { IfOk result (λ fine. IsTrue fine → Each (λ m. Known (M.shape self.now.machine.now) reached.new.nodes below (state_at (M.shape self.now.machine.now) m)) ahead.now.states) }
+    {
+        for k in 0..ahead.states.len() {
+            if !self.reach_next(reached, from, like, ahead, k, below)? {
+                return Ok(false);
+            }
+        }
+        Ok(true)
+    }
+
+    /// Expands a node, of whose step it is known what it leads to, and lists it if its state is
+    /// quiet. Returns what is wrong with the step, if anything is.
+    fn expand_ahead(
+        &self,
+        reached: &mut Reached,
+        from: usize,
+        state: &State,
+        ahead: &StepAhead,
+        quiet: &mut Vec<u32>,
+    ) -> Result<Option<BadStep>, SearchError>
+        requires machine { M.is_sound self.now.machine.now }
+        requires ready { CanExpand (M.shape self.now.machine.now) (M.right self.now.machine.now) from self.now.limit state.now reached.old.nodes }
+        requires ahead { IsAhead (M.shape self.now.machine.now) (M.specification self.now.machine.now) (M.turns self.now.machine.now) reached.old.nodes (state_of (M.shape self.now.machine.now) state.now) ahead.now }
+        ensures expands { ExpandsNode (M.shape self.now.machine.now) (M.specification self.now.machine.now) (M.turns self.now.machine.now) (M.right self.now.machine.now) (M.rests self.now.machine.now)
+            (IsOverLimitOf (M.made self.now.machine.now) (M.limit self.now.machine.now) (state_of (M.shape self.now.machine.now) state.now)) from self.now.limit reached.old.nodes reached.new.nodes result }
+        ensures quiet { ListsQuiet (M.specification self.now.machine.now) (M.turns self.now.machine.now) (M.rests self.now.machine.now) (state_of (M.shape self.now.machine.now) state.now) from quiet.old.items quiet.new.items result }
+    {
+        let below = reached.nodes.depth(from) + 1;
+        reached.index.count(ahead.outcomes);
+        if self.reach_all(reached, from, state, ahead, below)? {
+            rest(self.alloc, self.machine, from, state, ahead.is_quiet, quiet)
+        } else {
+            reached.index.uncount(ahead.outcomes);
+            self.expand_listed(reached, from, state, quiet)
+        }
+    }
+
+    /// Expands a node, and lists it if its state is quiet. Returns what is wrong with its step, if
+    /// anything is.
+    fn expand_step(
+        &self,
+        reached: &mut Reached,
+        from: usize,
+        state: &State,
+        ahead: &Option<StepAhead>,
+        quiet: &mut Vec<u32>,
+    ) -> Result<Option<BadStep>, SearchError>
+        requires machine { M.is_sound self.now.machine.now }
+        requires ready { CanExpand (M.shape self.now.machine.now) (M.right self.now.machine.now) from self.now.limit state.now reached.old.nodes }
+        requires ahead { IfSome ahead.now (IsAhead (M.shape self.now.machine.now) (M.specification self.now.machine.now) (M.turns self.now.machine.now) reached.old.nodes (state_of (M.shape self.now.machine.now) state.now)) }
+        ensures expands { ExpandsNode (M.shape self.now.machine.now) (M.specification self.now.machine.now) (M.turns self.now.machine.now) (M.right self.now.machine.now) (M.rests self.now.machine.now)
+            (IsOverLimitOf (M.made self.now.machine.now) (M.limit self.now.machine.now) (state_of (M.shape self.now.machine.now) state.now)) from self.now.limit reached.old.nodes reached.new.nodes result }
+        ensures quiet { ListsQuiet (M.specification self.now.machine.now) (M.turns self.now.machine.now) (M.rests self.now.machine.now) (state_of (M.shape self.now.machine.now) state.now) from quiet.old.items quiet.new.items result }
+    {
+        match ahead {
+            Some(ahead) => self.expand_ahead(reached, from, state, ahead, quiet),
+            None => self.expand_listed(reached, from, state, quiet),
+        }
+    }
+
+    /// Expands the nodes from one on, which have these states, of whose steps this is known.
+    fn expand_batch(
+        &self,
+        reached: &mut Reached,
+        first: usize,
+        states: &[State],
+        ahead: &[Option<StepAhead>],
+        quiet: &mut Vec<u32>,
+    ) -> Result<(), SearchSoFar>
+        requires machine { M.is_sound self.now.machine.now }
+        requires first { first + length states.now ≤ length reached.old.nodes }
+        requires states { states.now ≡ map (λ n. n.state) (take (length states.now) (drop first reached.old.nodes)) }
+        requires ahead { AreAhead (M.shape self.now.machine.now) (M.specification self.now.machine.now) (M.turns self.now.machine.now) reached.old.nodes states.now ahead.now }
+        requires shallow { Each (λ n. n.depth < self.now.steps) (take (length states.now) (drop first reached.old.nodes)) }
+        requires inside { Each (λ n. (M.within self.now.machine.now) (state_at (M.shape self.now.machine.now) n) ≡ true) (take (length states.now) (drop first reached.old.nodes)) }
+        requires room { length reached.old.nodes ≤ self.now.limit }
+        requires looked { IsLooked (M.shape self.now.machine.now) (M.specification self.now.machine.now) (M.turns self.now.machine.now) (M.right self.now.machine.now) (M.within self.now.machine.now) self.now.steps first reached.old.nodes }
+        requires rested { IsRested (M.shape self.now.machine.now) (M.specification self.now.machine.now) (M.turns self.now.machine.now) (M.rests self.now.machine.now) (M.within self.now.machine.now) self.now.steps first reached.old.nodes quiet.old.items }
+        requires near { IsNear reached.old.nodes first }
+        ensures room { length reached.new.nodes ≤ self.now.limit }
+        ensures looked { IfOk result (λ _. IsLooked (M.shape self.now.machine.now) (M.specification self.now.machine.now) (M.turns self.now.machine.now) (M.right self.now.machine.now) (M.within self.now.machine.now) self.now.steps (first + length states.now) reached.new.nodes) }
+        ensures rested { IfOk result (λ _. IsRested (M.shape self.now.machine.now) (M.specification self.now.machine.now) (M.turns self.now.machine.now) (M.rests self.now.machine.now) (M.within self.now.machine.now) self.now.steps (first + length states.now) reached.new.nodes quiet.new.items) }
+        ensures near { IfOk result (λ _. IsNear reached.new.nodes (first + length states.now)) }
+        ensures more { length reached.old.nodes ≤ length reached.new.nodes }
+        ensures rests { IfErr result (λ stopped. IsRested (M.shape self.now.machine.now) (M.specification self.now.machine.now) (M.turns self.now.machine.now) (M.rests self.now.machine.now) (M.within self.now.machine.now) self.now.steps stopped.expanded reached.new.nodes quiet.new.items) }
+        ensures stopped { IfErr result (λ stopped. IsStopped (M.shape self.now.machine.now) (M.specification self.now.machine.now) (M.turns self.now.machine.now) (IsOverLimitOf (M.made self.now.machine.now) (M.limit self.now.machine.now)) (M.right self.now.machine.now) (M.rests self.now.machine.now) (M.within self.now.machine.now) self.now.steps self.now.limit reached.new.nodes stopped) }
+    {
+        for k in 0..states.len() {
+            let from = first + k;
+            match self.expand_step(reached, from, &states[k], &ahead[k], quiet) {
+                Ok(None) => {}
+                Ok(Some(bad)) => {
+                    return Err(SearchSoFar {
+                        expanded: from,
+                        ended: SearchEnd::BadStep(bad),
+                    });
+                }
+                Err(halt) => {
+                    return Err(SearchSoFar {
+                        expanded: from,
+                        ended: cut_off(halt),
+                    });
+                }
+            }
+        }
+        Ok(())
+    }
+
+    /// Expands the next nodes, or passes over the next one if it isn't to be expanded. Returns how
+    /// many are done with.
+    fn expand_next(
+        &self,
+        reached: &mut Reached,
+        expanded: usize,
+        like: &State,
+        quiet: &mut Vec<u32>,
+    ) -> Result<usize, SearchSoFar>
+        requires machine { M.is_sound self.now.machine.now }
+        requires expanded { expanded < length reached.old.nodes }
+        requires like { length like.now ≡ count_of (M.shape self.now.machine.now) }
+        requires room { length reached.old.nodes ≤ self.now.limit }
+        requires looked { IsLooked (M.shape self.now.machine.now) (M.specification self.now.machine.now) (M.turns self.now.machine.now) (M.right self.now.machine.now) (M.within self.now.machine.now) self.now.steps expanded reached.old.nodes }
+        requires rested { IsRested (M.shape self.now.machine.now) (M.specification self.now.machine.now) (M.turns self.now.machine.now) (M.rests self.now.machine.now) (M.within self.now.machine.now) self.now.steps expanded reached.old.nodes quiet.old.items }
+        requires near { IsNear reached.old.nodes expanded }
+        ensures room { length reached.new.nodes ≤ self.now.limit }
+        ensures some { IfOk result (λ done. (expanded < done) × (done ≤ length reached.new.nodes)) }
+        ensures looked { IfOk result (λ done. IsLooked (M.shape self.now.machine.now) (M.specification self.now.machine.now) (M.turns self.now.machine.now) (M.right self.now.machine.now) (M.within self.now.machine.now) self.now.steps done reached.new.nodes) }
+        ensures rested { IfOk result (λ done. IsRested (M.shape self.now.machine.now) (M.specification self.now.machine.now) (M.turns self.now.machine.now) (M.rests self.now.machine.now) (M.within self.now.machine.now) self.now.steps done reached.new.nodes quiet.new.items) }
+        ensures near { IfOk result (λ done. IsNear reached.new.nodes done) }
+        ensures rests { IfErr result (λ stopped. IsRested (M.shape self.now.machine.now) (M.specification self.now.machine.now) (M.turns self.now.machine.now) (M.rests self.now.machine.now) (M.within self.now.machine.now) self.now.steps stopped.expanded reached.new.nodes quiet.new.items) }
+        ensures stopped { IfErr result (λ stopped. IsStopped (M.shape self.now.machine.now) (M.specification self.now.machine.now) (M.turns self.now.machine.now) (IsOverLimitOf (M.made self.now.machine.now) (M.limit self.now.machine.now)) (M.right self.now.machine.now) (M.rests self.now.machine.now) (M.within self.now.machine.now) self.now.steps self.now.limit reached.new.nodes stopped) }
+    {
+        let most = reached.index.next_batch(self.machine.batch());
+        let batch = match next_batch(
+            self.alloc,
+            self.machine,
+            &reached.nodes,
+            &reached.index,
+            expanded,
+            self.steps,
+            most,
+            like,
+        ) {
+            Ok(batch) => batch,
+            Err(halt) => {
+                return Err(SearchSoFar {
+                    expanded,
+                    ended: cut_off(halt),
+                });
+            }
+        };
+        let states = batch.states.as_slice();
+        reached.index.stepped(states.len());
+        if states.len() == 0 {
+            return Ok(expanded + 1);
+        }
+        self.expand_batch(reached, expanded, states, batch.ahead.as_slice(), quiet)?;
+        Ok(expanded + states.len())
+    }
+
+    /// Expands all nodes, and those that come of them.
+    fn expand_all<W: Watch<Progress>>(
+        &self,
+        reached: &mut Reached,
+        like: &State,
+        quiet: &mut Vec<u32>,
+        watch: &mut W,
+    ) -> SearchSoFar
+        requires machine { M.is_sound self.now.machine.now }
+        requires like { length like.now ≡ count_of (M.shape self.now.machine.now) }
+        requires room { length reached.old.nodes ≤ self.now.limit }
+        requires looked { IsLooked (M.shape self.now.machine.now) (M.specification self.now.machine.now) (M.turns self.now.machine.now) (M.right self.now.machine.now) (M.within self.now.machine.now) self.now.steps 0 reached.old.nodes }
+        requires rested { IsRested (M.shape self.now.machine.now) (M.specification self.now.machine.now) (M.turns self.now.machine.now) (M.rests self.now.machine.now) (M.within self.now.machine.now) self.now.steps 0 reached.old.nodes quiet.old.items }
+        requires near { IsNear reached.old.nodes 0 }
+        ensures rests { IsRested (M.shape self.now.machine.now) (M.specification self.now.machine.now) (M.turns self.now.machine.now) (M.rests self.now.machine.now) (M.within self.now.machine.now) self.now.steps result.expanded reached.new.nodes quiet.new.items }
+        ensures stopped { IsStopped (M.shape self.now.machine.now) (M.specification self.now.machine.now) (M.turns self.now.machine.now) (IsOverLimitOf (M.made self.now.machine.now) (M.limit self.now.machine.now)) (M.right self.now.machine.now) (M.rests self.now.machine.now) (M.within self.now.machine.now) self.now.steps self.now.limit reached.new.nodes result }
+    {
+        let mut expanded = 0;
+        while expanded < reached.nodes.len() {
+            match self.expand_next(reached, expanded, like, quiet) {
+                Ok(done) => {
+                    expanded = done;
+                    watch.tell(progress(&reached.nodes, done));
+                }
+                Err(stopped) => return stopped,
+            }
+        }
+        SearchSoFar {
+            expanded,
+            ended: ended_all(&reached.nodes, self.steps),
+        }
     }
 }
 
@@ -612,11 +576,16 @@ pub fn explore<M: Machine, W: Watch<Progress>>(
     nodes.push(initial, count, 0, 0)?;
     let mut index = Index::new(alloc);
     note_last(alloc, &nodes, hash_of(initial, count), &mut index)?;
-    let room = limit.max(1);
+    let mut reached = Reached { nodes, index };
     let mut quiet = Vec::new(alloc);
-    let looked = expand_all(
-        alloc, machine, initial, steps, room, &mut index, &mut nodes, &mut quiet, watch,
-    );
+    let search = Search {
+        alloc,
+        machine,
+        steps,
+        limit: limit.max(1),
+    };
+    let looked = search.expand_all(&mut reached, initial, &mut quiet, watch);
+    let Reached { nodes, index } = reached;
     let whole = whole_depth(&nodes, looked.expanded, steps);
     Ok(SearchResult {
         nodes,

@@ -1,7 +1,7 @@
 //! How far it is looked, and why it is given up.
 use crate::question::{ANY, Asked, answer_to, joined, told_of};
 use crate::texts::exclusion::{MUTEX, MUTEX_WRONG};
-use crate::told::{Told, Verdict, told_by};
+use crate::told::{Told, Verdict};
 use asm_explore::{Fault, Finding, RuleOverLimit};
 use std::alloc::{AllocError, Global};
 use std::test::Fail;

@@ -1,5 +1,5 @@
 //! What is printed of the assignments by which a run ends.
-ghost use Rattle.std.specs.Prelude.{◌≡◌, ◌∷◌, [], ℕ, List, length, map, IfOk, OnOk, ◌+◌};
+ghost use Rattle.std.specs.Prelude.{◌≡◌, ◌∷◌, [], ℕ, List, length, IfOk, ◌+◌};
 ghost use Rattle.asm_syntax.specs.code.Views.{spec_of};
 ghost use Rattle.asm_reader.specs.ScriptLines.{Script};
 ghost use Rattle.asm_reader.specs.ScriptText.{IsScript};

@@ -1,5 +1,5 @@
 //! Texts of scripts with comments between their lines.
-ghost use Rattle.std.specs.Prelude.{◌≡◌, ◌<◌, ◌≤◌, ◌++◌, List, length, IfErr, IfNone, IfOk, IfSome, OnOk};
+ghost use Rattle.std.specs.Prelude.{◌≡◌, ◌<◌, ◌≤◌, ◌++◌, length, IfErr, IfNone, IfOk, IfSome, OnOk};
 ghost use Rattle.std.specs.String.{string_bytes};
 ghost use Rattle.asm_meaning.specs.Scripts.{IsUnrepeated};
 ghost use Rattle.asm_reader.specs.code.ExactLines.{exactly};

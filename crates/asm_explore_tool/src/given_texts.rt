@@ -1,5 +1,5 @@
 //! What is read for settings: the text of the specification, and those of the conditions.
-ghost use Rattle.std.specs.Prelude.{◌≡◌, ◌++◌, List, ℕ, map, option_map, IfOk};
+ghost use Rattle.std.specs.Prelude.{◌≡◌, ◌++◌, List, ℕ, option_map, IfOk};
 ghost use Rattle.clap.specs.Walk.{texts};
 ghost use Rattle.asm_explore_texts.specs.Conditions.{text_of, texts_of};
 ghost use Rattle.asm_tool.specs.Statuses.{IsFront};

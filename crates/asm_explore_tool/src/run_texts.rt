@@ -1,6 +1,6 @@
 //! What is read for one run: the texts of the specification and of the script.
 ghost use Rattle.std.specs.Prelude.{◌≡◌, false, IfOk};
-ghost use Rattle.asm_explore_tool.specs.GivenTexts.{AreRunTexts, IsText, IsTextOfFile};
+ghost use Rattle.asm_explore_tool.specs.GivenTexts.{AreRunTexts, IsTextOfFile};
 ghost use Rattle.asm_explore_words.specs.WordsSaid.{reads_input_twice};
 
 use crate::given_texts::{MAX_BYTES_READ, of_file, text as text_of};

@@ -1,5 +1,5 @@
 //! The exploration of a checked specification by several workers.
-ghost use Rattle.std.specs.Prelude.{◌≡◌, ◌<◌, ◌≤◌, IfOk, length, take};
+ghost use Rattle.std.specs.Prelude.{◌≡◌, ◌<◌, IfOk, length, take};
 ghost use Rattle.asm_state.specs.code.Contents.{IsStateOf};
 ghost use Rattle.asm_state.specs.Signature.{count_of};
 ghost use Rattle.asm_syntax.specs.code.Views.{spec_of};
@@ -10,6 +10,7 @@ ghost use Rattle.asm_explore.specs.Conditions.{holds_in, term_holds, IsSpecified
 ghost use Rattle.asm_explore.specs.code.OutcomeLists.{Each};
 ghost use Rattle.asm_explore.specs.code.MainRule.{IsMainOverLimit};
 ghost use Rattle.asm_explore_workers.specs.code.Batches.{AreAheadOf};
+ghost use Rattle.asm_pool.specs.code.Lanes.{AreLanes};
 
 use crate::look_by::look_by;
 use crate::looks_ahead_by::LooksAheadBy;
@@ -39,7 +40,7 @@ fn explore_specified_by<R: Threads + Sync, W: Watch<Progress>>(
     watch: &mut W,
 ) -> Result<ExplorationResult, AllocError>
     requires sound { IsSpecified specified.now }
-    requires workers { (0 < workers) × (workers ≤ 32) }
+    requires workers { AreLanes workers }
     ensures { let s = spec_of specified.now.checked.now.spec in
         IfOk result (λ answer. IsExplorationResult (specification_of s) specified.now.turns (IsMainOverLimit specified.now.checked.now specified.now.turns specified.now.limit) steps states (holds_in (shape_of s) specified.now.always.now) (holds_in (shape_of s) specified.now.when_quiet.now) (holds_in (shape_of s) specified.now.within.now) answer) }
 {
@@ -48,7 +49,7 @@ fn explore_specified_by<R: Threads + Sync, W: Watch<Progress>>(
         Vec<Option<StepAhead>>,
         AllocError,
     >
-        requires workers { (0 < workers) × (workers ≤ 32) }
+        requires workers { AreLanes workers }
         requires sound { IsSpecified specified.now }
         requires states { Each (IsStateOf (shape_of (spec_of specified.now.checked.now.spec))) states.now }
         requires nodes { Each (λ n. length n.state ≡ count_of (shape_of (spec_of specified.now.checked.now.spec))) nodes.now }
@@ -73,7 +74,7 @@ fn explore_turns_by<R: Threads + Sync, W: Watch<Progress>>(
     workers: usize,
     watch: &mut W,
 ) -> Result<ExplorationResult, AllocError>
-    requires workers { (0 < workers) × (workers ≤ 32) }
+    requires workers { AreLanes workers }
     ensures { let q = question.now in
         IfOk result (λ answer. IsExplorationResult (specification_of (spec_of checked.now.spec)) turns (IsMainOverLimit checked.now turns q.outcomes) q.steps q.states (term_holds checked.now q.always) (term_holds checked.now q.when_quiet) (term_holds checked.now q.within) answer) }
 {
@@ -105,7 +106,7 @@ pub fn explore_all_by<R: Threads + Sync, W: Watch<Progress>>(
     workers: usize,
     watch: &mut W,
 ) -> Result<ExplorationResult, AllocError>
-    requires workers { (0 < workers) × (workers ≤ 32) }
+    requires workers { AreLanes workers }
     ensures { let q = question.now in
         IfOk result (λ answer. IsExplorationResult (specification_of (spec_of checked.now.spec)) q.turns (IsMainOverLimit checked.now q.turns q.outcomes) q.steps q.states (term_holds checked.now q.always) (term_holds checked.now q.when_quiet) (term_holds checked.now q.within) answer) }
 {

@@ -6,7 +6,7 @@
 //! and the next batch has at most twice as many states, or 16 (`Index::next_batch`), so the memory
 //! of a batch is bounded.
 ghost use denote.Param.Send.{IsSync};
-ghost use Rattle.std.specs.Prelude.{◌≡◌, ◌<◌, ◌≤◌, IfOk, length, take, vec_len};
+ghost use Rattle.std.specs.Prelude.{◌≡◌, ◌<◌, IfOk, length, take, vec_len};
 ghost use Rattle.asm_state.specs.code.Contents.{IsStateOf};
 ghost use Rattle.asm_state.specs.Signature.{count_of};
 ghost use Rattle.asm_syntax.specs.code.Views.{spec_of};
@@ -14,6 +14,7 @@ ghost use Rattle.asm_check.specs.Shapes.{shape_of};
 ghost use Rattle.asm_explore.specs.Conditions.{IsSpecified};
 ghost use Rattle.asm_explore.specs.code.OutcomeLists.{Each};
 ghost use Rattle.asm_explore_workers.specs.code.Batches.{AreAheadOf, firsts};
+ghost use Rattle.asm_pool.specs.code.Lanes.{AreLanes};
 
 use crate::job::{StepsJob, Tally};
 use asm_check::shared::checked_is_shared;
@@ -71,7 +72,7 @@ fn look_shared<'a, 's, R: Threads + Sync>(
     nodes: &'s Nodes,
     index: &'s Index,
 ) -> Result<Vec<Option<StepAhead>>, AllocError>
-    requires workers { (0 < workers) × (workers ≤ 32) }
+    requires workers { AreLanes workers }
     requires sound { IsSpecified specified.now }
     requires states { Each (IsStateOf (shape_of (spec_of specified.now.checked.now.spec))) states.now }
     requires nodes { Each (λ n. length n.state ≡ count_of (shape_of (spec_of specified.now.checked.now.spec))) nodes.now }
@@ -112,7 +113,7 @@ pub(crate) fn look_by<'a, 's, R: Threads + Sync>(
     nodes: &'s Nodes,
     index: &'s Index,
 ) -> Result<Vec<Option<StepAhead>>, AllocError>
-    requires workers { (0 < workers) × (workers ≤ 32) }
+    requires workers { AreLanes workers }
     requires sound { IsSpecified specified.now }
     requires states { Each (IsStateOf (shape_of (spec_of specified.now.checked.now.spec))) states.now }
     requires nodes { Each (λ n. length n.state ≡ count_of (shape_of (spec_of specified.now.checked.now.spec))) nodes.now }

@@ -4,7 +4,7 @@ ghost use Rattle.asm_state.specs.Signature.{count_of};
 ghost use Rattle.asm_syntax.specs.code.Views.{spec_of};
 ghost use Rattle.asm_check.specs.Shapes.{shape_of};
 
-use crate::escaped::{push_escaped, push_number};
+use crate::escaped::push_escaped;
 use asm_check::Checked;
 use asm_check::laws::signature_numbers;
 use asm_state::location::Location;

@@ -1,7 +1,7 @@
 //! The lanes of tasks: a table with a word for each lane, from which the workers' seats draw
 //! numbers.
 ghost use Rattle.std.specs.Prelude.{◌≡◌, ℕ, ◌+◌, ◌-◌, ◌*◌, ◌%◌, ◌/◌, ◌^◌, ◌<◌, ◌≤◌, ◌++◌, ◌∷◌, [], IfOk, MatchOption};
-ghost use Rattle.asm_pool.specs.code.Lanes.{IsLaneState, IsDrawn, HasDrawnAll, seat_view, past};
+ghost use Rattle.asm_pool.specs.code.Lanes.{AreLanes, IsLaneState, IsDrawn, HasDrawnAll, seat_view, past};
 ghost use Rattle.asm_pool.specs.code.WorkDone.{times};
 
 use atomic_table::{Join, Play, Seat, Split, Table, TableRule};
@@ -68,7 +68,7 @@ pub(crate) struct Lanes {
     ghost keyed: { table.shared.key ≡ shape },
     ghost wide: { table.shared.table_id.words ≡ shape.lanes },
     ghost narrow: { table.shared.table_id.slots ≡ 0 },
-    ghost some: { (0 < shape.lanes) × (shape.lanes ≤ 32) },
+    ghost some: { AreLanes shape.lanes },
     ghost room: { shape.count ≤ 2 ^ 63 },
 }
 
@@ -79,7 +79,7 @@ impl Lanes {
         lanes: usize,
         count: usize,
     ) -> Result<(Lanes, LaneSeat), AllocError>
-        requires some { (0 < lanes) × (lanes ≤ 32) }
+        requires some { AreLanes lanes }
         requires room { count ≤ 2 ^ 63 }
         ensures shape { IfOk result (λ r. (r.0.shape.lanes ≡ lanes) × (r.0.shape.count ≡ count)) }
         ensures seat { IfOk result (λ r. (r.1.table_id ≡ r.0.table.shared.table_id) × (r.1.me ≡ (seat_view lanes lanes [], []))) }

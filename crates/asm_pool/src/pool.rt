@@ -5,6 +5,7 @@
 //! their seats drew (`IsDoneByWorkers`).
 ghost use denote.Param.Send.{IsSend, IsSync};
 ghost use Rattle.std.specs.Prelude.{◌≡◌, ℕ, ◌^◌, ◌<◌, ◌≤◌, [], All, IfOk, IsOk, drop, vec_len};
+ghost use Rattle.asm_pool.specs.code.Lanes.{AreLanes};
 ghost use Rattle.asm_pool.specs.code.Pool.{Works};
 ghost use Rattle.asm_pool.specs.code.WorkersAndSeats.{AddsIdle, AreBoth, CanWork, HaveRunAll, HaveWorked};
 
@@ -118,7 +119,7 @@ fn work_lanes<
     hands: Vec<H>,
     gate: &G,
 ) -> Result<Vec<Worker<H, O>>, AllocError>
-    requires some { (0 < vec_len hands) × (vec_len hands ≤ 32) }
+    requires some { AreLanes (vec_len hands) }
     requires room { count ≤ 2 ^ 63 }
     requires tasks { (n : ℕ) → n < count → J.has_task job.now n }
     requires hands { All (J.takes_hand job.now) hands.items }
@@ -160,7 +161,7 @@ fn work_all<
     mut hands: Vec<H>,
     gate: &G,
 ) -> Result<Vec<Worker<H, O>>, AllocError>
-    requires some { (0 < vec_len hands) × (vec_len hands ≤ 32) }
+    requires some { AreLanes (vec_len hands) }
     requires most { 0 < max_workers }
     requires room { count ≤ 2 ^ 63 }
     requires tasks { (n : ℕ) → n < count → J.has_task job.now n }
@@ -202,7 +203,7 @@ pub fn work_by<
     hands: Vec<H>,
     gate: &G,
 ) -> Result<PoolResult<H, O>, PoolError>
-    requires lanes { (0 < lanes) × (lanes ≤ 32) }
+    requires lanes { AreLanes lanes }
     requires most { 0 < max_workers }
     requires hands { vec_len hands ≡ lanes }
     requires tasks { (n : ℕ) → n < count → J.has_task job.now n }
@@ -231,7 +232,7 @@ pub fn work<
     hands: Vec<H>,
     gate: &G,
 ) -> Result<PoolResult<H, O>, PoolError>
-    requires lanes { (0 < lanes) × (lanes ≤ 32) }
+    requires lanes { AreLanes lanes }
     requires hands { vec_len hands ≡ lanes }
     requires tasks { (n : ℕ) → n < count → J.has_task job.now n }
     requires fit { All (J.takes_hand job.now) hands.items }

@@ -1,5 +1,5 @@
 //! Runs that go wrong.
-ghost use Rattle.std.specs.Prelude.{◌≡◌, ◌≤◌, ℕ, IfOk, IfSome};
+ghost use Rattle.std.specs.Prelude.{◌≤◌, ℕ, IfOk, IfSome};
 ghost use Rattle.asm_explore.specs.Conditions.{IsSpecified};
 ghost use Rattle.asm_random.specs.code.ShorterRuns.{IsWrongFor};
 

@@ -1,5 +1,5 @@
 //! What is found if a run goes wrong.
-ghost use Rattle.std.specs.Prelude.{◌≡◌, ◌≤◌, ℕ, IfOk, IfSome};
+ghost use Rattle.std.specs.Prelude.{◌≤◌, ℕ, IfOk, IfSome};
 ghost use Rattle.std.specs.String.{string_bytes};
 ghost use Rattle.asm_reader.specs.ScriptText.{IsScript};
 ghost use Rattle.asm_syntax.specs.code.Views.{spec_of};

@@ -1,5 +1,5 @@
 //! Numbers that are drawn.
-ghost use Rattle.std.specs.Prelude.{◌≡◌, ◌<◌};
+ghost use Rattle.std.specs.Prelude.{◌<◌};
 
 use sha2::{Digest, Sha256};
 

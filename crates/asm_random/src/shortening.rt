@@ -1,5 +1,5 @@
 //! Runs that go wrong, made shorter.
-ghost use Rattle.std.specs.Prelude.{◌≡◌, OnOk};
+ghost use Rattle.std.specs.Prelude.{OnOk};
 ghost use Rattle.asm_explore.specs.Conditions.{IsSpecified};
 ghost use Rattle.asm_random.specs.code.ShorterRuns.{StaysWrong};
 

@@ -5,7 +5,6 @@
 //! specification without faults each call binds all of them.
 ghost use Rattle.std.specs.Prelude.{◌≡◌, ◌<◌, IfOk, IfSome, OnOk, length};
 ghost use Rattle.std.specs.Arc.{arc_value};
-ghost use Rattle.asm_check.specs.Numbers.{derived_of, rules_of};
 ghost use Rattle.asm_syntax.specs.SourceTree as source;
 ghost use Rattle.asm_syntax.specs.code.Views.{spec_of};
 ghost use Rattle.asm_code.specs.code.CodeViews.{code_of};

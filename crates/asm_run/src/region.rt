@@ -1,5 +1,5 @@
 //! The outcome of a region, by rounds.
-ghost use Rattle.std.specs.Prelude.{◌≡◌, All, IfOk};
+ghost use Rattle.std.specs.Prelude.{All, IfOk};
 ghost use Rattle.asm_meaning.specs.code.FormedOutcomes.{IsFormed};
 ghost use Rattle.asm_eval.specs.code.OpenedPieces.{pieces_yield};
 ghost use Rattle.asm_eval.specs.code.Pieces.{IsPiece};

@@ -5,7 +5,7 @@
 //! far is held (`Holds`): the set for which the logs of all hands stand together, the instances,
 //! and the least exhausted path. Each round keeps that (`IsRound`). The rounds are a recursion, at
 //! most 65 calls deep.
-ghost use Rattle.std.specs.Prelude.{◌≡◌, ℕ, ◌<◌, ◌≤◌, [], All, IfNone, IfOk, IfSome, IsOk, OnOk, length, vec_len};
+ghost use Rattle.std.specs.Prelude.{◌≡◌, ◌<◌, ◌≤◌, [], All, IfNone, IfOk, IfSome, IsOk, OnOk, vec_len};
 ghost use Rattle.asm_state.specs.Signature.{count_of};
 ghost use Rattle.asm_meaning.specs.Does as does;
 ghost use Rattle.asm_eval.specs.code.OpenedPieces.{pieces_yield};

@@ -1,5 +1,5 @@
 //! Writing a whole text.
-ghost use Rattle.std.specs.Prelude.{◌≡◌, ◌↔◌, IsTrue, IsFalse, IsErr, OnOk, OnErr};
+ghost use Rattle.std.specs.Prelude.{◌↔◌, IsTrue, IsFalse, IsErr, OnOk, OnErr};
 ghost use Rattle.std.specs.Io.KnownBytes.{Appends};
 ghost use Rattle.asm_run.specs.Sink.{AppendsFront};
 

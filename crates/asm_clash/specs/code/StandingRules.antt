@@ -5,11 +5,10 @@
 --                                   the state A, with an evaluation's choices
 --     stands_at                     the same in what the evaluation's view shows
 --     order_in                      the same of rules one after the other
---     IsLong shape R cut            a `forall` has no more positions than the cut
 --     IsNext                        what comes of the next part of a sequence: the set so far is
 --                                   joined with its own, and what stands goes on with what stands
 --                                   in its own
-use Rattle.std.specs.Prelude.{◌≡◌, ◌≤◌, ℕ, List, length, map, Option, Some, None}
+use Rattle.std.specs.Prelude.{◌≡◌, ℕ, List, map, Option, Some, None}
 use Rattle.asm_state.specs.Location.{Location, State}
 use Rattle.asm_state.specs.Signature.{Shape}
 use Rattle.asm_state.specs.Updates.{UpdateSet, merge}
@@ -19,8 +18,7 @@ use Rattle.asm_reader.specs.declared.picks.Picks.{Ghosts}
 use Rattle.asm_meaning.specs.code.PartSets.{IsPartSet}
 use Rattle.asm_meaning.specs.Yields.{Path, Result, Gives, Exhausted}
 use Rattle.asm_meaning.specs.declared.part_set.PartSet.{PartSet}
-use Rattle.asm_code.specs.code.Readings.{universe_at}
-use Rattle.asm_code.specs.code.RuleTree.{Forall, RuleCode, RuleCodes}
+use Rattle.asm_code.specs.code.RuleTree.{RuleCode, RuleCodes}
 use Rattle.asm_eval.specs.code.Frames.{readings_of}
 use Rattle.asm_eval.specs.code.Evaluation.{evaluation_choices, frame_locations, evaluation_shape, evaluation_state}
 use Rattle.asm_eval.specs.declared.frame.Frame.{Frame}
@@ -33,10 +31,6 @@ assigned_of a = record { path = a.path; value = a.value }
 
 abbrev pub all_assigned : List Assignment → List Assigned
 all_assigned found = map assigned_of found
-
-abbrev pub IsLong : Shape → RuleCode → (cut : ℕ) → Type 0
-IsLong shape (Forall u c P) cut = length (universe_at shape u) ≤ cut
-IsLong shape R cut = Unit {0}
 
 module _ {P : Type 0} {picks : Ghosts P} (at : Evaluation P picks) (l : Location) where
   abbrev pub stands_in : Frame → Path → RuleCode → State → List Assigned

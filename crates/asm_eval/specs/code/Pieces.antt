@@ -2,6 +2,7 @@
 --     IsInterval shape u from to      positions that rise, and lie in the universe numbered u
 --     IsPiece shape piece             its code is sound, and a span's rule is a `forall`
 --     positions_in shape piece        at how many positions a piece's `forall` is evaluated
+--     HasAtMost o n                   a number is at most n, if there is one
 --     piece_yields at piece           all of its rule, or the elements at its positions
 use Rattle.std.specs.Prelude.{ℕ, ◌-◌, ◌≤◌, Option, Some, None, length}
 use Rattle.asm_reader.specs.declared.picks.Picks.{Ghosts}
@@ -39,6 +40,10 @@ all_positions shape R = None
 abbrev pub positions : Shape → RuleCode → Part → Option ℕ
 positions shape R part.Whole = all_positions shape R
 positions shape R (part.Span from to) = Some (to - from)
+
+abbrev pub HasAtMost : Option ℕ → ℕ → Type 0
+HasAtMost None n = Unit {0}
+HasAtMost (Some k) n = k ≤ n
 
 abbrev pub positions_in : Shape → Piece → Option ℕ
 positions_in shape piece = positions shape (rule_of piece.rule.now) piece.part

@@ -22,9 +22,9 @@ use Rattle.asm_code.specs.code.RuleMeaning.{Locations, passes, passing, rule_siz
 use Rattle.asm_code.specs.code.RuleTree.{RuleCode, Skip, Assign, Par, Seq, If, Let, Forall, Choose, Iterate, Call, RuleCodes, no_rules, rule_then}
 use Rattle.asm_eval.specs.code.OpenedPieces.{is_closed}
 use Rattle.asm_eval.specs.code.Opening.{Work, all_of, one_work, choice_works, part_works, part_of, body_works, counted_works, spans, span_works, rule_works}
-use Rattle.asm_eval.specs.code.Pieces.{all_positions}
+use Rattle.asm_eval.specs.code.Pieces.{HasAtMost, all_positions}
 use Rattle.asm_explore.specs.ChoicePoints.{Asking, asks, asking_parts, parts_ask, each_asks, one_asks}
-use Rattle.asm_explore.specs.code.AskedPieces.{HasAtMost, own_asks, own_choice}
+use Rattle.asm_explore.specs.code.AskedPieces.{own_asks, own_choice}
 use Rattle.asm_explore.specs.code.ListElements.{Each}
 use Rattle.asm_explore.proofs.Elements.{each_weaker}
 

@@ -23,13 +23,13 @@ use Rattle.asm_code.specs.code.RuleViews.{rule_of}
 use Rattle.asm_eval.specs.code.Frames.{readings_of}
 use Rattle.asm_eval.specs.code.OpenedPieces.{Opens, is_closed, pieces_in, works_in}
 use Rattle.asm_eval.specs.code.Opening.{Work, work_of, part_opened, rule_works}
-use Rattle.asm_eval.specs.code.Pieces.{IsPiece, all_positions}
+use Rattle.asm_eval.specs.code.Pieces.{HasAtMost, IsPiece, all_positions}
 use Rattle.asm_eval.specs.code.Evaluation.{evaluation_choices, frame_locations, evaluation_shape, evaluation_state}
 use Rattle.asm_eval.specs.declared.open.Opened.{Opened}
 use Rattle.asm_eval.specs.declared.open.Opened.TheVariants as opening
 use Rattle.asm_eval.specs.declared.piece.Piece.{Piece}
 use Rattle.asm_eval.specs.declared.evaluation.Evaluation.{Evaluation}
-use Rattle.asm_explore.specs.code.AskedPieces.{HasAtMost, HasCount, own_at, piece_asks}
+use Rattle.asm_explore.specs.code.AskedPieces.{HasCount, own_at, piece_asks}
 use Rattle.asm_explore.specs.code.ListElements.{Each}
 use Rattle.asm_explore.proofs.ChoiceLemmas.AskedWorks.{IsBelow, all_ask, opened_asks, work_asks, works_fall, works_of}
 use Rattle.asm_explore.proofs.Elements.{each_at}

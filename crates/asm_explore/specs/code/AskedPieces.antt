@@ -4,11 +4,10 @@
 --     piece_asks              in a whole piece
 --     order_asked, turns_asked    in rules in order, and in turns, from a number on
 --     own_choice, own_asks    at a `choose` itself
---     HasAtMost o n           a number is at most n, if there is one
 --     HasCount n o            the set of an outcome has this count of locations
 --     IsUpon                  what was asked in the next part upon a set, and how the sequence goes
 --                             on
-use Rattle.std.specs.Prelude.{◌≡◌, ◌≤◌, ◌%◌, ◌++◌, ℕ, List, [], ◌∷◌, length, map, Option, Some, None}
+use Rattle.std.specs.Prelude.{◌≡◌, ◌%◌, ◌++◌, ℕ, List, [], ◌∷◌, length, map, Option, Some, None}
 use Rattle.asm_reader.specs.declared.picks.Picks.{Ghosts}
 use Rattle.asm_state.specs.Location.{State}
 use Rattle.asm_state.specs.Signature.{Shape}
@@ -36,10 +35,6 @@ use Rattle.asm_explore.specs.RunChoices.{asked_said}
 
 abbrev pub all_said : List ChoicePoint → List Asking
 all_said asked = map asked_said asked
-
-abbrev pub HasAtMost : Option ℕ → ℕ → Type 0
-HasAtMost None n = Unit {0}
-HasAtMost (Some k) n = k ≤ n
 
 -- the one that is taken of these candidates
 abbrev pub own_choice : Path → (chosen : ℕ) → List Value → List Asking

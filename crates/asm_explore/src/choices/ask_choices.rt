@@ -13,9 +13,9 @@ ghost use Rattle.asm_code.specs.code.RuleViews.{rule_of, rules_of};
 ghost use Rattle.asm_code.specs.code.SoundCodes.{IsUniverseNumber};
 ghost use Rattle.asm_eval.specs.code.Frames.{IsSoundFrame};
 ghost use Rattle.asm_eval.specs.code.OpenedPieces.{is_closed};
-ghost use Rattle.asm_eval.specs.code.Pieces.{IsPiece, all_positions};
+ghost use Rattle.asm_eval.specs.code.Pieces.{IsPiece};
 ghost use Rattle.asm_eval.specs.code.Evaluation.{evaluation_choices, passing_in, rule_upon, evaluation_shape, evaluation_state};
-ghost use Rattle.asm_explore.specs.code.AskedPieces.{HasAtMost, HasCount, IsUpon, all_said, asks_at, own_at, own_choice, piece_asks};
+ghost use Rattle.asm_explore.specs.code.AskedPieces.{HasCount, IsUpon, all_said, asks_at, own_at, own_choice, piece_asks};
 
 use crate::choices::choice_point::ChoicePoint;
 use crate::outcomes::candidates::candidates;
@@ -26,29 +26,12 @@ use asm_eval::evaluation::Evaluation;
 use asm_eval::frame::Frame;
 use asm_eval::open::{Opened, open_piece};
 use asm_eval::piece::{Piece, whole_piece};
+use asm_eval::piece_positions::whole_cut;
 use asm_meaning::part_set::PartSet;
 use asm_meaning::{Outcome, Part, Path, View};
 use asm_reader::Picks;
-use asm_state::signature::Signature;
 use asm_updates::summary::Summary;
 use std::alloc::{AllocError, Global};
-
-/// The path with these numbers.
-fn path_with(alloc: Global, numbers: &[u64]) -> Result<Path, AllocError>
-    ensures { IfOk result (λ p. p ≡ numbers.now) }
-{
-    let numbers = numbers.to_vec(alloc)?;
-    Ok(Path::new(numbers))
-}
-
-/// The path of the part with this number.
-fn path_below(alloc: Global, path: &[u64], number: u64) -> Result<Path, AllocError>
-    ensures { IfOk result (λ p. p ≡ yields.at path.now number) }
-{
-    let mut numbers = path.to_vec(alloc)?;
-    numbers.push(number)?;
-    Ok(Path::new(numbers))
-}
 
 /// Adds the choice that a `choose` makes, if it has candidates.
 fn add_choice<'e, P: Picks>(
@@ -72,7 +55,7 @@ fn add_choice<'e, P: Picks>(
     }
     let choices = evaluation.choices;
     let number = choices.script.pick(choices.step, path) % many;
-    let path = path_with(alloc, path)?;
+    let path = Path::of(alloc, path)?;
     into.push(ChoicePoint {
         choice: Choice { path, number },
         candidates,
@@ -96,18 +79,6 @@ fn add_own<P: Picks>(
             add_choice(alloc, evaluation, &piece.frame, *over, test, path, into)
         }
         _ => Ok(()),
-    }
-}
-
-/// A cut at which a rule's `forall` isn't cut.
-fn whole_cut(signature: &Signature, rule: &RuleCode) -> usize
-    requires { IsSoundRule signature.now (rule_of rule.now) }
-    ensures some { 0 < result }
-    ensures whole { HasAtMost (all_positions signature.now (rule_of rule.now)) result }
-{
-    match rule {
-        RuleCode::Forall { over, .. } => signature.universe(*over).size().max(1),
-        _ => 1,
     }
 }
 
@@ -263,7 +234,7 @@ fn add_next<'e, P: Picks>(
     ensures upon { (U : UpdateSet) → Stands (evaluation_shape evaluation.now) so_far.old U → IsConsistent U →
         IfOk result (IsUpon evaluation.now frame.now (yields.at path.now number) (rule_of rule.now) U so_far.new (all_said into.old.items) (all_said into.new.items)) }
 {
-    let path = path_below(alloc, path, number)?;
+    let path = Path::below(alloc, path, number)?;
     let piece = Piece {
         rule,
         frame: *frame,

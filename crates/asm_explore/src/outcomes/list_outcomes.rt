@@ -41,21 +41,11 @@ use asm_eval::choose::passes;
 use asm_eval::frame::Frame;
 use asm_eval::target::optional_target_number;
 use asm_eval::value::{holds, value};
-use asm_meaning::View;
-use std::alloc::{AllocError, Global};
+use asm_meaning::{Path, View};
+use std::alloc::Global;
 
 /// Paths with fewer numbers than this need no memory.
 const MAX_SHORT_PATH: usize = 16;
-
-/// The path of the part with this number.
-fn path_below(alloc: Global, path: &[u64], number: u64) -> Result<Vec<u64>, AllocError>
-    ensures { IfOk result (λ p. p.items ≡ yields.at path.now number) }
-{
-    let mut below = Vec::with_capacity(alloc, path.len().saturating_add(1))?;
-    below.extend_from_slice(path)?;
-    below.push(number)?;
-    Ok(below)
-}
 
 /// Puts the path of the part with this number first.
 #[inline(always)]
@@ -141,7 +131,7 @@ fn list_part<'e>(
         put_path(path, number, &mut below);
         return outcomes(alloc, exploration, frame, rule, &below[..path.len() + 1]);
     }
-    let below = path_below(alloc, path, number)?;
+    let below = Path::below(alloc, path, number)?;
     let found = outcomes(alloc, exploration, frame, rule, below.as_slice())?;
     Ok(found)
 }

@@ -1,6 +1,6 @@
 //! Lists of outcomes of the rule at a path: if one has more than the limit says, the refusal names
 //! the path, and how many outcomes the rule's parts have.
-ghost use Rattle.std.specs.Prelude.{◌≡◌, ◌<◌, ℕ, ◌+◌, ◌∷◌, ◌++◌, [], List, length, IfOk, IfErr, IsErr, OnOk, OnErr};
+ghost use Rattle.std.specs.Prelude.{◌≡◌, ◌<◌, ℕ, ◌+◌, ◌++◌, List, length, IfOk, IfErr, IsErr, OnOk};
 ghost use Rattle.asm_state.specs.Signature.{count_of};
 ghost use Rattle.asm_meaning.specs.Yields as yields;
 ghost use Rattle.asm_meaning.specs.Yields.{Result as Yielded, Gives, Exhausted};

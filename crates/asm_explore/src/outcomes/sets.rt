@@ -1,5 +1,5 @@
 //! Sets of updates: none, one, two beside each other, and two one after the other.
-ghost use Rattle.std.specs.Prelude.{◌≡◌, ◌<◌, IfOk, OnOk};
+ghost use Rattle.std.specs.Prelude.{◌≡◌, ◌<◌, IfOk};
 ghost use Rattle.asm_state.specs.Signature.{Shape, count_of, location_at};
 ghost use Rattle.asm_state.specs.Updates.{UpdateSet, none, one, together};
 ghost use Rattle.asm_updates.specs.code.Stands.{Stands};
@@ -12,7 +12,6 @@ ghost use Rattle.asm_explore.specs.code.Sequences.{IsTold, Merges};
 use crate::updates::Updates;
 use asm_state::signature::Signature;
 use asm_state::word::Word;
-use asm_updates::laws::standing_laws;
 use asm_updates::summary::Summary;
 use std::alloc::{AllocError, Global};
 

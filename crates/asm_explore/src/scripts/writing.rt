@@ -1,5 +1,5 @@
 //! The text of a script, from its lines.
-ghost use Rattle.std.specs.Prelude.{◌≡◌, ◌≤◌, ◌++◌, ◌∷◌, [], length, codes, decimal, IfErr, IfOk, OnOk};
+ghost use Rattle.std.specs.Prelude.{◌≡◌, ◌≤◌, ◌++◌, ◌∷◌, [], length, decimal, IfErr, IfOk, OnOk};
 ghost use Rattle.std.specs.String.{string_bytes};
 ghost use Rattle.asm_reader.specs.code.ExactLines.{exactly};
 ghost use Rattle.asm_reader.specs.ScriptText.{max_script, IsScript};

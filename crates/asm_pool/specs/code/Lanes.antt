@@ -7,6 +7,10 @@ use Rattle.atomic_table.specs.Table.{Step, Me}
 use Rattle.asm_pool.specs.declared.lanes.SeatView.{SeatView}
 use Rattle.asm_pool.specs.code.WorkDone.{times}
 
+-- how many lanes there may be, and so how many workers
+abbrev pub AreLanes : ℕ → Type 0
+AreLanes lanes = (0 < lanes) × (lanes ≤ 32)
+
 abbrev pub seat_view : ℕ → ℕ → List ℕ → SeatView
 seat_view lanes parts drawn = record { lanes = lanes; parts = parts; drawn = drawn }
 

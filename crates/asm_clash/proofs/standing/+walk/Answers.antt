@@ -27,7 +27,7 @@ standing_in-loop-i-init g t c =
     let shape = evaluation_shape r in
     let l = location_at shape a.n in
     let pieces = c.in-Pieces.pieces in
-    (pieces_here r a.piece.now c.requires.whole _ _ c.in_ok-pieces.ensures l pieces c.in-Pieces.instances c.in-Pieces.is c.cut_of-cut.ensures.long).0
+    (pieces_here r a.piece.now c.requires.whole _ _ c.in_ok-pieces.ensures l pieces c.in-Pieces.instances c.in-Pieces.is c.whole_cut-cut.ensures.whole).0
     ∙ ap (λ (found : List Assignment). all_assigned found ++ works_stand shape r.turns (evaluation_choices r) l (evaluation_state r) (map (work_of shape) pieces.items)) (sym c.new-all.ensures.items)
 
 pub standing_in-standing_in-requires : goal.standing_in-standing_in-requires
@@ -37,7 +37,7 @@ standing_in-standing_in-requires g t c κs within =
     let l = location_at (evaluation_shape r) a.n in
     let pieces = c.in-Pieces.pieces in
     let low : c.loop-i.i < length pieces.items = omega (arith, c.loop-i-test.true, c.len-i-end.ensures, pieces.ok) in
-    let one = piece_here r a.piece.now c.requires.whole _ _ c.in_ok-pieces.ensures l pieces c.in-Pieces.instances c.in-Pieces.is c.cut_of-cut.ensures.long c.loop-i.i c.index.result.now low c.index.ensures in
+    let one = piece_here r a.piece.now c.requires.whole _ _ c.in_ok-pieces.ensures l pieces c.in-Pieces.instances c.in-Pieces.is c.whole_cut-cut.ensures.whole c.loop-i.i c.index.result.now low c.index.ensures in
     (omega (arith, c.decreases, one.0), (search rules, (one.1, (one.2, c.requires.number))))
 
 pub standing_in-returns-in-Assign : goal.standing_in-returns-in-Assign
@@ -68,7 +68,7 @@ standing_in-returns-in_default g t c =
     let r = a.evaluation.now in
     let shape = evaluation_shape r in
     let l = location_at shape a.n in
-    let closed = closed_here r a.piece.now c.requires.whole _ _ c.in_ok-pieces.ensures (c.opening_laws.ensures r) c.requires.piece c.in-Closed.is c.cut_of-cut.ensures.some in
+    let closed = closed_here r a.piece.now c.requires.whole _ _ c.in_ok-pieces.ensures (c.opening_laws.ensures r) c.requires.piece c.in-Closed.is c.whole_cut-cut.ensures.some in
     ap all_assigned c.new.ensures.items
     ∙ other_here shape r.turns (evaluation_choices r) l (readings_of shape a.piece.now.frame) (frame_locations shape a.piece.now.frame) (evaluation_state r) a.piece.now.path a.piece.now.path refl
     a.piece.now.rule.now closed c.in_default.not-Assign c.in_default.not-Seq c.in_default.not-Iterate

@@ -20,7 +20,7 @@ returns-clause-safe g c =
     let right = g.M.Machine.right a.machine.now in
     let rests = g.M.Machine.rests a.machine.now in
     let within = g.M.Machine.within a.machine.now in
-    let nodes = c.expand_all-looked.new.nodes in
+    let nodes = c.expand_all-looked.new.reached.nodes in
     let i = c.expand_all-looked.result.expanded in
     let whole = c.whole_depth-whole.result in
     search_covers shape specification turns right within whole nodes
@@ -36,7 +36,7 @@ returns-clause-closed g c = λ closed.
     let rests = g.M.Machine.rests a.machine.now in
     let within = g.M.Machine.within a.machine.now in
     let looked = c.expand_all-looked.ensures.stopped in
-    let nodes = c.expand_all-looked.new.nodes in
+    let nodes = c.expand_all-looked.new.reached.nodes in
     let i = c.expand_all-looked.result.expanded in
     let all = looked.all (closed_done c.expand_all-looked.result.ended closed) in
     closure_covers shape specification turns right within a.steps nodes
@@ -50,7 +50,7 @@ returns-clause-wrong g c =
     let turns = g.M.Machine.turns a.machine.now in
     let right = g.M.Machine.right a.machine.now in
     let rests = g.M.Machine.rests a.machine.now in
-    let nodes = c.expand_all-looked.new.nodes in
+    let nodes = c.expand_all-looked.new.reached.nodes in
     let within = g.M.Machine.within a.machine.now in
     if_bad_weaker _ (GoesWrongSo specification turns right rests within shape nodes) c.expand_all-looked.result.ended
     (λ bad is. bad_runs specification turns right rests within shape nodes bad is.0 (λ n there. (is.2 n there).1)) c.expand_all-looked.ensures.stopped.wrong
@@ -58,7 +58,7 @@ returns-clause-wrong g c =
 pub returns-clause-deep : goal.returns-clause-deep
 returns-clause-deep g c =
     let a = c.args in
-    let nodes = c.expand_all-looked.new.nodes in
+    let nodes = c.expand_all-looked.new.reached.nodes in
     if_bad_weaker _ (λ (bad : BadStep). (n : Node) → slice_get nodes bad.from ≡ Some n → (n.depth ≡ c.whole_depth-whole.result) × (n.depth < a.steps)) c.expand_all-looked.result.ended
     (λ bad is n there. (sym (c.whole_depth-whole.ensures.next n (subst (λ i. slice_get nodes i ≡ Some n) is.1 there) (is.2 n there).0), (is.2 n there).0)) c.expand_all-looked.ensures.stopped.wrong
 
@@ -73,7 +73,7 @@ returns-clause-alive g c =
     let within = g.M.Machine.within a.machine.now in
     let looked = c.expand_all-looked.ensures.stopped in
     let rested = c.expand_all-looked.ensures.rests in
-    let nodes = c.expand_all-looked.new.nodes in
+    let nodes = c.expand_all-looked.new.reached.nodes in
     let quiet = c.expand_all-looked.new.quiet.items in
     let i = c.expand_all-looked.result.expanded in
     let whole = c.whole_depth-whole.result in
@@ -92,7 +92,7 @@ returns-clause-always_alive g c = λ closed.
     let within = g.M.Machine.within a.machine.now in
     let looked = c.expand_all-looked.ensures.stopped in
     let rested = c.expand_all-looked.ensures.rests in
-    let nodes = c.expand_all-looked.new.nodes in
+    let nodes = c.expand_all-looked.new.reached.nodes in
     let quiet = c.expand_all-looked.new.quiet.items in
     let i = c.expand_all-looked.result.expanded in
     let all = looked.all (closed_done c.expand_all-looked.result.ended closed) in
@@ -110,7 +110,7 @@ returns-clause-lively g c = λ closed none.
     let within = g.M.Machine.within a.machine.now in
     let looked = c.expand_all-looked.ensures.stopped in
     let rested = c.expand_all-looked.ensures.rests in
-    let nodes = c.expand_all-looked.new.nodes in
+    let nodes = c.expand_all-looked.new.reached.nodes in
     let quiet = c.expand_all-looked.new.quiet.items in
     let i = c.expand_all-looked.result.expanded in
     let all = looked.all (closed_done c.expand_all-looked.result.ended closed) in
@@ -128,7 +128,7 @@ returns-clause-first_quiet g c =
     let within = g.M.Machine.within a.machine.now in
     let looked = c.expand_all-looked.ensures.stopped in
     let rested = c.expand_all-looked.ensures.rests in
-    let nodes = c.expand_all-looked.new.nodes in
+    let nodes = c.expand_all-looked.new.reached.nodes in
     let quiet = c.expand_all-looked.new.quiet.items in
     let i = c.expand_all-looked.result.expanded in
     first_quiet shape specification turns rests within a.steps right i nodes quiet looked.so_far rested
@@ -138,7 +138,7 @@ returns-clause-crowded g c =
     let a = c.args in
     let shape = g.M.Machine.shape a.machine.now in
     let crowds = IsOverLimitOf (g.M.Machine.made a.machine.now) (g.M.Machine.limit a.machine.now) in
-    let nodes = c.expand_all-looked.new.nodes in
+    let nodes = c.expand_all-looked.new.reached.nodes in
     let i = c.expand_all-looked.result.expanded in
     let whole = c.whole_depth-whole.result in
     crowd_weaker (λ crowd. (n : Node) × (slice_get nodes i ≡ Some n) × (n.depth < a.steps) × crowds (state_at shape n) crowd) (AtNode shape crowds nodes i whole) c.expand_all-looked.result.ended

@@ -127,7 +127,7 @@ pub list_part-returns : goal.list_part-returns
 list_part-returns t c =
     let a = c.args in
     subst (λ q. ListsOutcomes a.exploration.now q (yields_on a.exploration.now a.frame.now q (rule_of a.rule.now)) (makes_on a.exploration.now a.frame.now q (rule_of a.rule.now)) (Ok c.in_ok-found.found))
-    (c.as_slice.ensures.value ∙ c.in_ok-below.ensures) c.in_ok-found.ensures
+    (c.as_slice.ensures ∙ c.in_ok-below.ensures) c.in_ok-found.ensures
 
 pub list_part-returns-then-path-lt-MAX_SHORT_PATH : goal.list_part-returns-then-path-lt-MAX_SHORT_PATH
 list_part-returns-then-path-lt-MAX_SHORT_PATH t c =

@@ -32,7 +32,7 @@ list_part-returns-in_err-found t c =
     let refusal = c.in_err-found.field-0.0 in
     refused_list a.exploration.now (at a.path.now a.number) _ _ c.from_residual-in_err-found.result refusal c.from_residual-in_err-found.ensures.1
     (subst (λ q. Refuses a.exploration.now.limit (λ r. IsWay q (makes_on a.exploration.now a.frame.now q (rule_of a.rule.now))) refusal)
-    (c.as_slice.ensures.value ∙ c.in_ok-below.ensures) c.in_err-found.ensures.crowded)
+    (c.as_slice.ensures ∙ c.in_ok-below.ensures) c.in_err-found.ensures.crowded)
 
 pub list_all-returns-in_err-part : goal.list_all-returns-in_err-part
 list_all-returns-in_err-part t c =

@@ -1,0 +1,81 @@
+use Rattle.std.proofs.Common.{◌≡◌, ◌+◌, ◌∙◌, ◌++◌, ◌∷◌, [], take, ap, sym, subst, arith}
+use Rattle.std.specs.Prelude.{Some}
+use Rattle.std.proofs.lemmas.List.{take_all, take_more}
+use Rattle.std.proofs.lemmas.Option.{slice_get-get_or}
+use Rattle.asm_state.specs.Signature.{state_of}
+use Rattle.asm_graph.specs.declared.graph.Edge.{Edge}
+use Rattle.asm_graph.specs.Graphs.{Pairs}
+use Rattle.asm_graph.specs.code.GraphSoFar.{IsFollowed}
+use Rattle.asm_graph.proofs.MoreNodes.{followed_more, grows_both, grows_none}
+use Rattle.asm_graph.proofs.Outcomes.{edges_are, outcome_at}
+use Rattle.asm_graph.proofs.Paired.{pairs_push, pairs_weaker}
+use Rattle.asm_graph.proofs.build_graph.Walk.edges_from.Goals as goal
+
+pub loop-k-init : goal.loop-k-init
+loop-k-init g c =
+    let a = c.args in
+    let shape = g.M.Machine.shape a.self.now.machine.now in
+    let specification = g.M.Machine.specification a.self.now.machine.now in
+    let turns = g.M.Machine.turns a.self.now.machine.now in
+    let within = g.M.Machine.within a.self.now.machine.now in
+    let right = g.M.Machine.right a.self.now.machine.now in
+    let rests = g.M.Machine.rests a.self.now.machine.now in
+    record {
+      grows = grows_none shape specification turns within right rests a.self.now.most a.nodes.now.items c.requires.nodes;
+      follow = subst (Pairs (IsFollowed shape a.nodes.now.items (state_of shape a.from.now)) []) (sym c.new-edges.ensures.items) tt;
+    }
+
+pub follow-requires-clause-one : goal.follow-requires-clause-one
+follow-requires-clause-one g c =
+    let a = c.args in
+    let shape = g.M.Machine.shape a.self.now.machine.now in
+    let specification = g.M.Machine.specification a.self.now.machine.now in
+    let turns = g.M.Machine.turns a.self.now.machine.now in
+    let within = g.M.Machine.within a.self.now.machine.now in
+    let right = g.M.Machine.right a.self.now.machine.now in
+    let rests = g.M.Machine.rests a.self.now.machine.now in
+    let k = c.loop-k.k in
+    let one = c.index-outcomes-k.result in
+    outcome_at shape specification turns (state_of shape a.from.now) a.outcomes.now c.requires.step k one
+    (slice_get-get_or a.outcomes.now k one c.loop-k-test.true ∙ ap Some (sym c.index-outcomes-k.is))
+
+pub loop-k-preserved : goal.loop-k-preserved
+loop-k-preserved g c =
+    let a = c.args in
+    let shape = g.M.Machine.shape a.self.now.machine.now in
+    let specification = g.M.Machine.specification a.self.now.machine.now in
+    let turns = g.M.Machine.turns a.self.now.machine.now in
+    let within = g.M.Machine.within a.self.now.machine.now in
+    let right = g.M.Machine.right a.self.now.machine.now in
+    let rests = g.M.Machine.rests a.self.now.machine.now in
+    let l = c.loop-k in
+    let A = state_of shape a.from.now in
+    let one = c.index-outcomes-k.result in
+    let edge : Edge = record { choices = c.in_ok-choices.choices; to = c.in_ok-to.to } in
+    let grows = c.in_ok-to.ensures.grows in
+    let new = c.follow.new.nodes.items in
+    let P = IsFollowed shape new A in
+    let first : take (l.k + 1) a.outcomes.now ≡ take l.k a.outcomes.now ++ one ∷ [] =
+    take_more a.outcomes.now l.k one c.loop-k-test.true ∙ ap (λ x. take l.k a.outcomes.now ++ x ∷ []) (sym c.index-outcomes-k.is) in
+    record {
+      grows = grows_both shape specification turns within right rests a.self.now.most a.nodes.now.items l.nodes.items new l.invariant.grows grows;
+      follow = subst (λ xs. Pairs P xs c.push.new.self.items) (sym first)
+          (subst (Pairs P (take l.k a.outcomes.now ++ one ∷ [])) (sym c.in_ok-push.ensures.items)
+          (pairs_push P (take l.k a.outcomes.now) l.edges.items one edge
+          (pairs_weaker (IsFollowed shape l.nodes.items A) P (λ f e. followed_more shape l.nodes.items grows.more new grows.is A f e) (take l.k a.outcomes.now) l.edges.items l.invariant.follow)
+          (record { choices = c.in_ok-choices.ensures ∙ c.as_slice.ensures.value; goes = c.in_ok-to.ensures.goes })));
+    }
+
+pub returns-clause-edges : goal.returns-clause-edges
+returns-clause-edges g c =
+    let a = c.args in
+    let shape = g.M.Machine.shape a.self.now.machine.now in
+    let specification = g.M.Machine.specification a.self.now.machine.now in
+    let turns = g.M.Machine.turns a.self.now.machine.now in
+    let within = g.M.Machine.within a.self.now.machine.now in
+    let right = g.M.Machine.right a.self.now.machine.now in
+    let rests = g.M.Machine.rests a.self.now.machine.now in
+    let l = c.loop-k in
+    let A = state_of shape a.from.now in
+    edges_are shape specification turns A a.outcomes.now c.requires.step l.nodes.items l.edges.items
+    (subst (λ xs. Pairs (IsFollowed shape l.nodes.items A) xs l.edges.items) (take_all l.k a.outcomes.now (omega arith)) l.invariant.follow)

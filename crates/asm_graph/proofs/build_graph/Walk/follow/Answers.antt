@@ -1,0 +1,76 @@
+use Rattle.std.proofs.Common.{sym, subst}
+use Rattle.std.specs.Prelude.{IfErr, IfOk}
+use Rattle.asm_state.specs.code.Contents.{IsStateOf}
+use Rattle.asm_state.specs.Signature.{count_of, state_of}
+use Rattle.asm_explore.specs.code.OutcomeLists.{IsCounted}
+use Rattle.asm_graph.specs.code.GraphSoFar.{FailsSo, Leads}
+use Rattle.asm_graph.proofs.MoreNodes.{grows_none}
+use Rattle.asm_graph.proofs.Outcomes.{goes_known, led_on, leads_on, whole_next}
+use Rattle.asm_graph.proofs.build_graph.Walk.follow.Goals as goal
+
+pub next_state-requires-clause-from : goal.next_state-requires-clause-from
+next_state-requires-clause-from g c = subst (λ s. IsStateOf s c.args.from.now) (sym c.signature.ensures) c.requires.from
+
+pub next_state-requires-clause-one : goal.next_state-requires-clause-one
+next_state-requires-clause-one g c = subst (λ s. IsCounted (count_of s) c.args.one.now.answer) (sym c.signature.ensures) c.requires.one.counted
+
+pub reach-requires-clause-kept : goal.reach-requires-clause-kept
+reach-requires-clause-kept g c =
+    let a = c.args in
+    let shape = g.M.Machine.shape a.self.now.machine.now in
+    let specification = g.M.Machine.specification a.self.now.machine.now in
+    let turns = g.M.Machine.turns a.self.now.machine.now in
+    let within = g.M.Machine.within a.self.now.machine.now in
+    let right = g.M.Machine.right a.self.now.machine.now in
+    let rests = g.M.Machine.rests a.self.now.machine.now in
+    let A = state_of shape a.from.now in
+    let signature = c.signature.result.now in
+    let leads = leads_on signature shape a.from.now c.in-Ok.next a.one.now c.signature.ensures
+    (subst (λ led. IfOk led (λ next. Leads signature (state_of signature a.from.now) a.one.now next)) c.in-Ok.is c.in_ok-next.ensures.leads) in
+    whole_next shape specification turns A a.one.now c.in-Ok.next c.requires.one leads c.script_law.ensures.makes
+
+pub reach-requires-clause-led : goal.reach-requires-clause-led
+reach-requires-clause-led g c =
+    let a = c.args in
+    let shape = g.M.Machine.shape a.self.now.machine.now in
+    let specification = g.M.Machine.specification a.self.now.machine.now in
+    let turns = g.M.Machine.turns a.self.now.machine.now in
+    let within = g.M.Machine.within a.self.now.machine.now in
+    let right = g.M.Machine.right a.self.now.machine.now in
+    let rests = g.M.Machine.rests a.self.now.machine.now in
+    let A = state_of shape a.from.now in
+    let signature = c.signature.result.now in
+    let leads = leads_on signature shape a.from.now c.in-Ok.next a.one.now c.signature.ensures
+    (subst (λ led. IfOk led (λ next. Leads signature (state_of signature a.from.now) a.one.now next)) c.in-Ok.is c.in_ok-next.ensures.leads) in
+    led_on shape specification turns A a.one.now c.in-Ok.next c.requires.one leads within a.depth c.requires.inside c.requires.led
+
+pub returns-in_ok-number-in-Ok-clause-goes : goal.returns-in_ok-number-in-Ok-clause-goes
+returns-in_ok-number-in-Ok-clause-goes g c =
+    let a = c.args in
+    let shape = g.M.Machine.shape a.self.now.machine.now in
+    let specification = g.M.Machine.specification a.self.now.machine.now in
+    let turns = g.M.Machine.turns a.self.now.machine.now in
+    let within = g.M.Machine.within a.self.now.machine.now in
+    let right = g.M.Machine.right a.self.now.machine.now in
+    let rests = g.M.Machine.rests a.self.now.machine.now in
+    let A = state_of shape a.from.now in
+    let signature = c.signature.result.now in
+    let leads = leads_on signature shape a.from.now c.in-Ok.next a.one.now c.signature.ensures
+    (subst (λ led. IfOk led (λ next. Leads signature (state_of signature a.from.now) a.one.now next)) c.in-Ok.is c.in_ok-next.ensures.leads) in
+    goes_known shape A a.one.now c.in-Ok.next c.reach.new.nodes.items c.in_ok-number-in-Ok.number leads c.in_ok-number-in-Ok.ensures.number
+
+pub returns-in-Err-clause-grows : goal.returns-in-Err-clause-grows
+returns-in-Err-clause-grows g c =
+    let a = c.args in
+    let shape = g.M.Machine.shape a.self.now.machine.now in
+    let specification = g.M.Machine.specification a.self.now.machine.now in
+    let turns = g.M.Machine.turns a.self.now.machine.now in
+    let within = g.M.Machine.within a.self.now.machine.now in
+    let right = g.M.Machine.right a.self.now.machine.now in
+    let rests = g.M.Machine.rests a.self.now.machine.now in
+    grows_none shape specification turns within right rests a.self.now.most a.nodes.now.items c.requires.nodes
+
+pub returns-in-Err-clause-goes : goal.returns-in-Err-clause-goes
+returns-in-Err-clause-goes g c =
+    subst (λ s. FailsSo s c.args.one.now c.in-Err.fault) c.signature.ensures
+    (subst (λ led. IfErr led (FailsSo c.signature.result.now c.args.one.now)) c.in-Err.is c.in_ok-next.ensures.fault)

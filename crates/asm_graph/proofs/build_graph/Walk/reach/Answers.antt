@@ -1,0 +1,59 @@
+use Rattle.std.proofs.Common.{◌≡◌, ◌+◌, ◌∙◌, ◌++◌, ◌∷◌, [], length, ap, sym, subst, arith}
+use Rattle.std.specs.Prelude.{Some, slice_get}
+use Rattle.std.proofs.lemmas.List.{length_push}
+use Rattle.asm_state.specs.Signature.{count_of}
+use Rattle.asm_explore.specs.code.OutcomeLists.{Each}
+use Rattle.asm_graph.specs.declared.graph.Node.{Node}
+use Rattle.asm_graph.specs.code.GraphSoFar.{HasContents, IsNodeRight}
+use Rattle.asm_graph.proofs.MoreNodes.{grows_none, grows_one}
+use Rattle.asm_graph.proofs.Paired.{each_weaker, slice_last}
+use Rattle.asm_graph.proofs.build_graph.Walk.reach.Goals as goal
+
+pub find_node-requires-clause-nodes : goal.find_node-requires-clause-nodes
+find_node-requires-clause-nodes g c =
+    let a = c.args in
+    let shape = g.M.Machine.shape a.self.now.machine.now in
+    let specification = g.M.Machine.specification a.self.now.machine.now in
+    let turns = g.M.Machine.turns a.self.now.machine.now in
+    let within = g.M.Machine.within a.self.now.machine.now in
+    let right = g.M.Machine.right a.self.now.machine.now in
+    let rests = g.M.Machine.rests a.self.now.machine.now in
+    let count = c.count-count.result in
+    subst (Each (λ (n : Node). length n.state ≡ count)) (sym c.as_slice.ensures.value)
+    (each_weaker (IsNodeRight shape specification turns within right rests) (λ (n : Node). length n.state ≡ count)
+    (λ n h. h.kept.whole ∙ sym (c.count-count.ensures.count ∙ ap count_of c.signature.ensures)) a.nodes.now.items c.requires.nodes.each)
+
+pub returns-in-Some-clause-grows : goal.returns-in-Some-clause-grows
+returns-in-Some-clause-grows g c =
+    let a = c.args in
+    let shape = g.M.Machine.shape a.self.now.machine.now in
+    let specification = g.M.Machine.specification a.self.now.machine.now in
+    let turns = g.M.Machine.turns a.self.now.machine.now in
+    let within = g.M.Machine.within a.self.now.machine.now in
+    let right = g.M.Machine.right a.self.now.machine.now in
+    let rests = g.M.Machine.rests a.self.now.machine.now in
+    grows_none shape specification turns within right rests a.self.now.most a.nodes.now.items c.requires.nodes
+
+pub returns-in-Some-clause-number : goal.returns-in-Some-clause-number
+returns-in-Some-clause-number g c = subst (λ xs. HasContents xs c.in-Some.number c.args.next) c.as_slice.ensures.value c.in-Some.ensures
+
+pub returns-clause-grows : goal.returns-clause-grows
+returns-clause-grows g c =
+    let a = c.args in
+    let shape = g.M.Machine.shape a.self.now.machine.now in
+    let specification = g.M.Machine.specification a.self.now.machine.now in
+    let turns = g.M.Machine.turns a.self.now.machine.now in
+    let within = g.M.Machine.within a.self.now.machine.now in
+    let right = g.M.Machine.right a.self.now.machine.now in
+    let rests = g.M.Machine.rests a.self.now.machine.now in
+    let new = c.push.new.self.items in
+    let size : length new ≡ length a.nodes.now.items + 1 = ap length c.in_ok-push.ensures.items ∙ length_push a.nodes.now.items c.new_node-node.result in
+    grows_one shape specification turns within right rests a.self.now.most a.nodes.now.items new c.new_node-node.result c.in_ok-push.ensures.items c.requires.nodes
+    c.new_node-node.ensures.kept (omega (arith, size, c.if-number-self.false, c.len-number.ensures))
+
+pub returns-clause-number : goal.returns-clause-number
+returns-clause-number g c =
+    let old = c.args.nodes.now.items in
+    let node = c.new_node-node.result in
+    let at : c.len-number.result ≡ length old = omega (arith, c.len-number.ensures, c.args.nodes.now.ok.0) in
+    (node, subst (λ ns. slice_get ns c.len-number.result ≡ Some node) (sym c.in_ok-push.ensures.items) (ap (slice_get (old ++ node ∷ [])) at ∙ slice_last old node), c.new_node-node.ensures.state)

@@ -1,0 +1,71 @@
+use Rattle.std.proofs.Common.{◌≡◌, ◌+◌, ◌<◌, ◌∙◌, ◌++◌, ◌∷◌, [], length, take, ap, sym, subst, arith}
+use Rattle.std.specs.Prelude.{Some, slice_get}
+use Rattle.std.proofs.lemmas.List.{length-append, length_push, take_all}
+use Rattle.asm_explore.specs.code.StepOutcomes.{IsOverLimitOf}
+use Rattle.asm_graph.specs.Graphs.{IsShown, Pairs}
+use Rattle.asm_graph.proofs.MoreNodes.{grows_both, grows_none, shown_more}
+use Rattle.asm_graph.proofs.Paired.{pairs_push, pairs_weaker, some_at, take_next}
+use Rattle.asm_graph.proofs.build_graph.Walk.steps_from_all.Goals as goal
+
+pub loop-made-init : goal.loop-made-init
+loop-made-init g c =
+    let a = c.args in
+    let shape = g.M.Machine.shape a.self.now.machine.now in
+    let specification = g.M.Machine.specification a.self.now.machine.now in
+    let turns = g.M.Machine.turns a.self.now.machine.now in
+    let within = g.M.Machine.within a.self.now.machine.now in
+    let right = g.M.Machine.right a.self.now.machine.now in
+    let rests = g.M.Machine.rests a.self.now.machine.now in
+    let shown = IsShown shape specification turns within (IsOverLimitOf (g.M.Machine.made a.self.now.machine.now) (g.M.Machine.limit a.self.now.machine.now)) a.self.now.steps a.nodes.now.items in
+    record {
+      some = omega (arith, ap length c.requires.none);
+      grows = grows_none shape specification turns within right rests a.self.now.most a.nodes.now.items c.requires.nodes;
+      shown = subst (λ made. Pairs shown (take (length made) a.nodes.now.items) made) (sym c.requires.none) tt;
+    }
+
+pub loop-made-preserved : goal.loop-made-preserved
+loop-made-preserved g c =
+    let a = c.args in
+    let shape = g.M.Machine.shape a.self.now.machine.now in
+    let specification = g.M.Machine.specification a.self.now.machine.now in
+    let turns = g.M.Machine.turns a.self.now.machine.now in
+    let within = g.M.Machine.within a.self.now.machine.now in
+    let right = g.M.Machine.right a.self.now.machine.now in
+    let rests = g.M.Machine.rests a.self.now.machine.now in
+    let crowds = IsOverLimitOf (g.M.Machine.made a.self.now.machine.now) (g.M.Machine.limit a.self.now.machine.now) in
+    let l = c.loop-made in
+    let old = l.nodes.items in
+    let made = l.made.items in
+    let k = length made in
+    let step = c.in_ok-step.step in
+    let grows = c.in_ok-step.ensures.grows in
+    let new = c.step_from.new.nodes.items in
+    let low : k < length old = omega (arith, c.loop-made-test.true, c.len.ensures, c.len-in-loop-made.ensures) in
+    let n = some_at old k low in
+    let at : c.len-in-loop-made-2.result ≡ k = omega (arith, c.len-in-loop-made-2.ensures, l.made.ok.0) in
+    let there : slice_get old c.len-in-loop-made-2.result ≡ Some n.0 = ap (slice_get old) at ∙ n.1 in
+    let size : length new ≡ length old + length grows.more = ap length grows.is ∙ length-append old grows.more in
+    let shown = IsShown shape specification turns within crowds a.self.now.steps in
+    record {
+      some = omega (arith, ap length c.in_ok-push.ensures.items, length_push made step, size, low);
+      grows = grows_both shape specification turns within right rests a.self.now.most a.nodes.now.items old new l.invariant.grows grows;
+      shown = subst (λ ss. Pairs (shown new) (take (length ss) new) ss) (sym c.in_ok-push.ensures.items)
+          (subst (λ j. Pairs (shown new) (take j new) (made ++ step ∷ [])) (sym (length_push made step))
+          (subst (λ ns. Pairs (shown new) ns (made ++ step ∷ [])) (sym (take_next old grows.more new k n.0 grows.is n.1))
+          (pairs_push (shown new) (take k old) made n.0 step
+          (pairs_weaker (shown old) (shown new) (shown_more shape old grows.more new grows.is specification turns within crowds a.self.now.steps) (take k old) made l.invariant.shown)
+          (c.in_ok-step.ensures.shown n.0 there))));
+    }
+
+pub returns-clause-shown : goal.returns-clause-shown
+returns-clause-shown g c =
+    let a = c.args in
+    let shape = g.M.Machine.shape a.self.now.machine.now in
+    let specification = g.M.Machine.specification a.self.now.machine.now in
+    let turns = g.M.Machine.turns a.self.now.machine.now in
+    let within = g.M.Machine.within a.self.now.machine.now in
+    let right = g.M.Machine.right a.self.now.machine.now in
+    let rests = g.M.Machine.rests a.self.now.machine.now in
+    let l = c.loop-made in
+    let shown = IsShown shape specification turns within (IsOverLimitOf (g.M.Machine.made a.self.now.machine.now) (g.M.Machine.limit a.self.now.machine.now)) a.self.now.steps l.nodes.items in
+    subst (λ ns. Pairs shown ns l.made.items) (take_all (length l.made.items) l.nodes.items (omega (arith, c.loop-made-test.false, c.len.ensures, c.len-in-loop-made.ensures))) l.invariant.shown
