@@ -59,12 +59,14 @@ pub fn outcome_by_code<P: Picks>(
         IfOk result (λ formed. Follows (evaluation_shape evaluation.now) o forming.old forming.new formed) }
 {
     let code = resolve_main(alloc, checked)?;
-    Ok(form(
+    let formed = form(
         alloc,
         &mut OnThisThread,
         evaluation,
         &Frame::Empty,
         &code,
         forming,
-    ))
+    );
+    drop(code);
+    Ok(formed)
 }

@@ -38,7 +38,8 @@ use Rattle.asm_eval.specs.declared.open.Opened.{Opened}
 use Rattle.asm_eval.specs.declared.open.Opened.TheVariants as opening
 use Rattle.asm_eval.specs.declared.piece.Piece.{Piece}
 use Rattle.asm_eval.specs.declared.evaluation.Evaluation.{Evaluation}
-use Rattle.asm_clash.specs.Standing.{Assigned, assigned_at, order_stands, parts_of, standing}
+use Rattle.asm_clash.specs.Standing.{Assigned}
+use Rattle.asm_clash.specs.code.StandingCodes.{assigned_at, order_stands, parts_of, standing}
 use Rattle.asm_clash.specs.code.StandingRules.{stands_at}
 use Rattle.asm_clash.proofs.OpenedRules.{AreBelow, AreOpened, rule_opened, works_stand}
 

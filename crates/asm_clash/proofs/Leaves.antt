@@ -10,7 +10,8 @@ use Rattle.asm_state.specs.Signature.{Shape, IsSound, count_of, is_location, loc
 use Rattle.asm_state.proofs.LocationLemmas.NumberedLocations.{number_laws}
 use Rattle.asm_meaning.specs.Yields.{Path}
 use Rattle.asm_eval.specs.code.Evaluation.{location_numbered}
-use Rattle.asm_clash.specs.Standing.{Assigned, assigned_at}
+use Rattle.asm_clash.specs.Standing.{Assigned}
+use Rattle.asm_clash.specs.code.StandingCodes.{assigned_at}
 
 same_location : (l m : Location) → is_location l m ≡ true → l ≡ m
 same_location l m e = location_cmp-antisymmetric l m ((Equal-is (location_cmp l m)).0 e)

@@ -1,5 +1,5 @@
 pub mod StandingSets
-pub mod StandingRules
+pub mod StandingTold
 pub mod OpenedRules
 pub mod ClosedRules
 pub mod Sequences

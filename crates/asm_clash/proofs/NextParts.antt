@@ -16,7 +16,8 @@ use Rattle.asm_code.specs.code.RuleTree.{RuleCode}
 use Rattle.asm_eval.specs.code.Frames.{readings_of}
 use Rattle.asm_eval.specs.code.Evaluation.{frame_locations}
 use Rattle.asm_eval.specs.declared.frame.Frame.{Frame}
-use Rattle.asm_clash.specs.Standing.{Assigned, later, standing}
+use Rattle.asm_clash.specs.Standing.{Assigned, later}
+use Rattle.asm_clash.specs.code.StandingCodes.{standing}
 use Rattle.asm_clash.specs.code.StandingRules.{IsNext}
 
 module _ (turns : ℕ) (chosen : Path → ℕ) (R : RuleCode) (f : Frame) (n : ℕ) (shape upper : Shape) (same : upper ≡ shape) (A B : State) (shows : B ≡ A) (p q : Path) (at : q ≡ p) where

@@ -22,7 +22,8 @@ use Rattle.asm_code.specs.code.RuleMeaning.{Locations, passes, passing, rule_siz
 use Rattle.asm_code.specs.code.RuleTree.{RuleCode, Skip, Assign, Par, Seq, If, Let, Forall, Choose, Iterate, Call, RuleCodes, no_rules, rule_then}
 use Rattle.asm_eval.specs.code.Opening.{Work, all_of, body_works, choice_works, counted_works, one_work, part_of, part_works, rule_works, span_works, spans}
 use Rattle.asm_eval.specs.code.Pieces.{HasAtMost, all_positions}
-use Rattle.asm_clash.specs.Standing.{Assigned, each_stands, one_stands, parts_of, parts_stand, standing}
+use Rattle.asm_clash.specs.Standing.{Assigned}
+use Rattle.asm_clash.specs.code.StandingCodes.{each_stands, one_stands, parts_of, parts_stand, standing}
 
 abbrev pub AreBelow : (size : ℕ) → List Work → Type 0
 AreBelow size [] = Unit {0}

@@ -27,7 +27,8 @@ use Rattle.asm_code.specs.code.RuleMeaning.{Locations, meaning}
 use Rattle.asm_code.specs.code.RuleTree as tree
 use Rattle.asm_code.specs.code.RuleViews.{rule_of, rules_of}
 use Rattle.asm_code.specs.declared.rule_code.RuleCode.{RuleCode}
-use Rattle.asm_clash.specs.Standing.{Assigned, StandingPart, after_part, after_turn, later, order_stands, parts_of, standing, turns_stand}
+use Rattle.asm_clash.specs.Standing.{Assigned, later}
+use Rattle.asm_clash.specs.code.StandingCodes.{StandingPart, after_part, after_turn, order_stands, parts_of, standing, turns_stand}
 
 -- ---- later ones
 

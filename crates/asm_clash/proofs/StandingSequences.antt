@@ -18,8 +18,9 @@ use Rattle.asm_code.specs.code.RuleMeaning.{Locations, meaning}
 use Rattle.asm_code.specs.code.RuleTree as tree
 use Rattle.asm_code.specs.code.RuleViews.{rule_of}
 use Rattle.asm_code.specs.declared.rule_code.RuleCode.{RuleCode}
-use Rattle.asm_clash.specs.Standing.{Assigned, later, standing}
-use Rattle.asm_clash.specs.code.StandingRules.{IsNext, all_assigned}
+use Rattle.asm_clash.specs.Standing.{Assigned, later, all_assigned}
+use Rattle.asm_clash.specs.code.StandingCodes.{standing}
+use Rattle.asm_clash.specs.code.StandingRules.{IsNext}
 use Rattle.asm_clash.specs.declared.assignment.Assignment.{Assignment}
 use Rattle.asm_clash.proofs.Sequences.{IsWalked, walked_begin, walked_on, walked_off, walked_none, part_next, part_last, turn_next, turn_last, was_exhausted, turn_exhausted, good_part, faulty_part, good_turn, order_left, order_next, order_end, turns_left, turns_begin, turns_next, turns_end}
 

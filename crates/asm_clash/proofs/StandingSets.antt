@@ -1,23 +1,23 @@
--- Free. What a set has at a location, if it is made of others: the values of the assignments that
--- stand there.
+-- Free. What a set has at a location, if a story gives it: the values of the assignments that stand
+-- there.
 --     Shows l r found       a result is exhausted, or its set has those values at l
---     none_shown, assigned_shown, beside_shown, part_shown, turn_shown, elements_shown, one_shown, turns_shown
---                           of no update and of one, and of what parts, elements, candidates and turns make
-use Rattle.std.proofs.Common.{◌++◌, ◌≡◌, ◌<◌, ℕ, zero, suc, Bool, true, false, cond, not, ◌||◌, List, [], ◌∷◌, refl, sym, ap, subst, ◌∙◌, arith, ◌⊎◌, inl, inr, Option, Some, None}
+--     story_shown           of what a story gives
+--     standing_laws         of the set that it gives
+use Rattle.std.proofs.Common.{◌++◌, ◌≡◌, ◌<◌, ℕ, zero, suc, true, false, cond, List, [], ◌∷◌, refl, sym, ap, subst, ◌∙◌, arith, ◌⊎◌, inl, inr}
 use Rattle.std.specs.Prelude.{Contains, length, slice_index_or}
 use Rattle.std.specs.Cmp.{Equal-is, tied_itself}
 use Rattle.std.proofs.lemmas.Bool.{false≢true}
 use Rattle.std.proofs.lemmas.List.Elements.{Contains-append_left, Contains-append_right, Contains-append_cases}
 use Rattle.asm_state.specs.declared.value.Value.{Value}
-use Rattle.asm_state.specs.Location.{Location, State, location_cmp, location_cmp-total, location_cmp-antisymmetric}
+use Rattle.asm_state.specs.Location.{Location, location_cmp, location_cmp-total, location_cmp-antisymmetric}
 use Rattle.asm_state.specs.Signature.{is_location}
-use Rattle.asm_state.specs.Updates.{UpdateSet, Has, Names, one, together, merge, is_none, is_consistent, fire}
+use Rattle.asm_state.specs.Updates.{UpdateSet, Has, Names, one, together, merge}
 use Rattle.asm_state.proofs.UpdateLemmas.Members.{member_laws}
-use Rattle.asm_meaning.specs.Does.{Outcome, nothing, both, counted, following, part_and, turn_and, each, one_of, turns_of}
-use Rattle.asm_meaning.specs.Program.{nothing_bound}
-use Rattle.asm_meaning.specs.Targets.{update}
-use Rattle.asm_meaning.specs.Yields.{Path, Result, Gives, Exhausted, at, beside, after}
-use Rattle.asm_clash.specs.Standing.{Assigned, AreValuesAt, values_of, later, after_part, after_turn, assigned_at, each_stands, one_stands, turns_stand}
+use Rattle.asm_meaning.specs.Does.{Outcome, nothing}
+use Rattle.asm_meaning.specs.Story.{Story, Silent, Assigns, Chooses, Instance, Beside, Then, Exhausts, and_then, outcome_of}
+use Rattle.asm_meaning.specs.Yields.{Path, Result, Gives, Exhausted, beside, after}
+use Rattle.asm_clash.specs.Standing.{Assigned, AreValuesAt, values_of, later, stands}
+use Rattle.asm_clash.specs.StandingLaws.{StandingLaws}
 
 -- ---- elements of lists
 
@@ -49,18 +49,13 @@ module _ (l : Location) where
   Shows (Gives U) found = AreValuesAt U l found
   Shows (Exhausted q) found = Unit {0}
 
-  either_shown : (b : Bool) (o q : Outcome) (found others : List Assigned) → Shows o.result found → Shows q.result others → Shows (cond b o q).result (cond b found others)
-  either_shown true o q found others shown other = shown
-  either_shown false o q found others shown other = other
-
   pub none_shown : Shows nothing.result []
   none_shown v = (λ h. absurd (member_laws.of_none l v h), λ h. absurd (no_element v h))
 
   -- ---- an assignment
 
-  pub assigned_shown : (to : Option Location) (w : Value) (p : Path) → Shows (Gives (update to w)) (assigned_at l to w p)
-  assigned_shown None w p = none_shown
-  assigned_shown (Some m) w p =
+  assigned_shown : (m : Location) (w : Value) (p : Path) → Shows (Gives (one m w)) (cond (is_location l m) (record { path = p; value = w } ∷ []) [])
+  assigned_shown m w p =
       elim (is_location l m) as (λ b. is_location l m ≡ b → AreValuesAt (one m w) l (cond b (record { path = p; value = w } ∷ []) [])) [
         | true ↦ λ e v. (
           λ h. let is : w ≡ v = sym ((member_laws.of_one m l w v).0 h).1 in subst (Contains (w ∷ [])) is (first_value w []),
@@ -91,19 +86,6 @@ module _ (l : Location) where
   beside_shown (Exhausted q) (Gives V) found others shown other = tt
   beside_shown (Exhausted q) (Exhausted s) found others shown other = tt
 
-  pub elements_shown : (m : Value → ℕ → Outcome) (stands : Value → ℕ → List Assigned) (test : Value → Bool) → ((v : Value) (k : ℕ) → Shows (m v k).result (stands v k))
-      → (k : ℕ) (vs : List Value) → Shows (each m test k vs).result (each_stands stands test k vs)
-  elements_shown m stands test shown k [] = none_shown
-  elements_shown m stands test shown k (v ∷ vs) =
-      let rest = elements_shown m stands test shown (suc k) vs in
-      either_shown (test v) (counted (both (m v k) (each m test (suc k) vs))) (each m test (suc k) vs) (stands v k ++ each_stands stands test (suc k) vs) (each_stands stands test (suc k) vs)
-      (beside_shown (m v k).result (each m test (suc k) vs).result (stands v k) (each_stands stands test (suc k) vs) (shown v k) rest) rest
-
-  pub one_shown : (n : ℕ) (vs : List Value) (m : Value → Outcome) (other : Outcome) (stands : Value → List Assigned) (others : List Assigned)
-      → ((v : Value) → Shows (m v).result (stands v)) → Shows other.result others → Shows (one_of n vs m other).result (one_stands n vs stands others)
-  one_shown n [] m other stands others shown none_taken = none_taken
-  one_shown n (v ∷ vs) m other stands others shown none_taken = shown _
-
   -- ---- one after the other
 
   merge_shown : (U V : UpdateSet) (own others : List Assigned) → AreValuesAt U l own → AreValuesAt V l others → AreValuesAt (merge U V) l (later own others)
@@ -125,25 +107,20 @@ module _ (l : Location) where
   after_shown U (Gives V) own others shown other = merge_shown U V own others shown other
   after_shown U (Exhausted q) own others shown other = tt
 
-  pub part_shown : (r : Result) (n : ℕ) (rest : UpdateSet → Outcome) (own : List Assigned) (others : UpdateSet → List Assigned)
-      → Shows r own → ((U : UpdateSet) → Shows (rest U).result (others U)) → Shows (part_and r n rest).result (after_part own r others)
-  part_shown (Exhausted q) n rest own others shown other = tt
-  part_shown (Gives U) n rest own others shown other =
-      either_shown (is_consistent U) (following U n (rest U)) (record { result = Gives U; instances = n }) (later own (others U)) own
-      (after_shown U (rest U).result own (others U) shown (other U)) shown
+  and_then_shown : (r : Result) (n : ℕ) (o : Outcome) (own others : List Assigned) → Shows r own → Shows o.result others → Shows (and_then r n o).result (later own others)
+  and_then_shown (Gives U) n o own others shown other = after_shown U o.result own others shown other
+  and_then_shown (Exhausted q) n o own others shown other = tt
 
-  pub turn_shown : (r : Result) (n : ℕ) (rest : UpdateSet → Outcome) (own : List Assigned) (others : UpdateSet → List Assigned)
-      → Shows r own → ((U : UpdateSet) → Shows (rest U).result (others U)) → Shows (turn_and r n rest).result (after_turn own r others)
-  turn_shown (Exhausted q) n rest own others shown other = tt
-  turn_shown (Gives U) n rest own others shown other =
-      either_shown (is_none U || not (is_consistent U)) (record { result = Gives U; instances = n }) (following U n (rest U)) own (later own (others U))
-      shown (after_shown U (rest U).result own (others U) shown (other U))
+  -- ---- a story
 
-  pub turns_shown : (m : State → Path → Outcome) (stands : State → Path → List Assigned) → ((A : State) (p : Path) → Shows (m A p).result (stands A p))
-      → (left t : ℕ) (A : State) (p : Path)
-      → Shows (turns_of (λ A e p. m A p) left t A nothing_bound p).result (turns_stand (record { yields = λ A p. (m A p).result; stands = stands }) left t A p)
-  turns_shown m stands shown zero t A p = tt
-  turns_shown m stands shown (suc left) t A p =
-      turn_shown (m A (at p t)).result (m A (at p t)).instances (λ U. turns_of (λ A e p. m A p) left (suc t) (fire A U) nothing_bound p)
-      (stands A (at p t)) (λ U. turns_stand (record { yields = λ A p. (m A p).result; stands = stands }) left (suc t) (fire A U) p)
-      (shown A (at p t)) (λ U. turns_shown m stands shown left (suc t) (fire A U) p)
+  pub story_shown : (s : Story) → Shows (outcome_of s).result (stands l s)
+  story_shown Silent = none_shown
+  story_shown (Assigns p m w) = assigned_shown m w p
+  story_shown (Chooses p k vs s) = story_shown s
+  story_shown (Instance s) = story_shown s
+  story_shown (Beside s t) = beside_shown (outcome_of s).result (outcome_of t).result (stands l s) (stands l t) (story_shown s) (story_shown t)
+  story_shown (Then s t) = and_then_shown (outcome_of s).result (outcome_of s).instances (outcome_of t) (stands l s) (stands l t) (story_shown s) (story_shown t)
+  story_shown (Exhausts p) = tt
+
+pub standing_laws : StandingLaws
+standing_laws = record { in_set = λ l s U is. subst (λ r. Shows l r (stands l s)) is (story_shown l s) }

@@ -23,23 +23,29 @@ use Rattle.asm_meaning.specs.Declarations.{main_rule, specification_of}
 use Rattle.asm_meaning.specs.Does.{Outcome, does}
 use Rattle.asm_meaning.specs.Program.{nothing_bound}
 use Rattle.asm_meaning.specs.Run.{AtExhausted, AtFault, Run, Specification, run}
+use Rattle.asm_meaning.specs.Story.{Story, outcome_of, step_tells}
 use Rattle.asm_meaning.specs.Yields.{Path, Result, Gives, Exhausted}
 use Rattle.asm_code.specs.code.RuleMeaning.{meaning}
+use Rattle.asm_code.specs.code.RuleStories.{telling}
 use Rattle.asm_code.specs.code.RuleTree.{RuleCode}
+use Rattle.asm_code.proofs.RuleStories.{code_outcomes}
 use Rattle.asm_resolve.specs.code.ResolvingLaws.{ResolvingLaws}
 use Rattle.asm_resolve.specs.code.RuleScopes.{resolved_rule_in}
 use Rattle.asm_eval.specs.code.Frames.{readings_of}
 use Rattle.asm_eval.specs.code.Evaluation.{frame_locations}
 use Rattle.asm_eval.specs.declared.frame.Frame.{Frame}
 use Rattle.asm_eval.specs.declared.frame.Frame.TheVariants as bare
-use Rattle.asm_clash.specs.ClashOfRun.{EndsSo, IsStepEnd, coded, coded_at, location_of}
-use Rattle.asm_clash.specs.Standing.{Assigned, AreValuesAt, standing}
+use Rattle.asm_clash.specs.ClashOfRun.{EndsSo, location_of}
+use Rattle.asm_clash.specs.code.StepEnds.{IsStepEnd, coded, coded_at}
+use Rattle.asm_clash.specs.Standing.{Assigned, AreValuesAt, stands, all_assigned}
+use Rattle.asm_clash.specs.code.StandingCodes.{standing}
 use Rattle.asm_clash.specs.declared.assignment.Assignment.{Assignment}
 use Rattle.asm_clash.specs.declared.clash.ClashOfRun.TheVariants as clash
 use Rattle.asm_clash.specs.declared.step_end.StepEnd.TheVariants as made
 use Rattle.asm_clash.proofs.FirstFaults.{first_is_fault}
 use Rattle.asm_clash.proofs.Runs.{IsRest, rest_exhausted, rest_faulty, rest_fired}
-use Rattle.asm_clash.proofs.StandingRules.{standing_laws}
+use Rattle.asm_clash.proofs.StandingSets.{standing_laws}
+use Rattle.asm_clash.proofs.StandingTold.{set_told}
 
 module _ (shape : Shape) (turns : ℕ) (chosen : Path → ℕ) (R : RuleCode) (A : State) (f : Frame) (nothing : f ≡ bare.Empty) (p : Path) (top : p ≡ []) where
   pub yields_here : (r : Result) → (meaning shape turns chosen R (readings_of shape f) (frame_locations shape f) A p).result ≡ r → coded shape turns chosen R A ≡ r
@@ -76,13 +82,24 @@ module _ (laws : ResolvingLaws) (s : Spec) (turns : ℕ) (script : Script) (limi
   pub ends_exhausted : (q : Path) → IsStepEnd (shape_of s) turns (pick script step) R A (made.Exhausted q) → EndsSo s turns script whole (clash.Exhausted step q)
   ends_exhausted q is = rest_exhausted main turns script limit done A low rest q (code_yields (Exhausted q) is) ∙ ap (λ k. AtExhausted k q) (sym at)
 
+  -- what the main rule tells in the step, and its code
+  abbrev story : State → Story
+  story B = step_tells main turns script step B
+
+  abbrev code_story : Story
+  code_story = telling (shape_of s) turns (pick script step) R [] [] A []
+
+  same_story : code_story ≡ story A
+  same_story = laws.tells s (main_rule s (inits s)) R turns script step A [] resolved
+
   pub ends_faulty : (fault : Fault) (found : Vec Assignment Global) → IsStepEnd (shape_of s) turns (pick script step) R A (made.Faulty fault found) → EndsSo s turns script whole (clash.Faulty step fault found)
   ends_faulty fault found (U, gives, first, stand) =
       let l = location_of (shape_of s) fault in
       let ended = rest_faulty main turns script limit done A low rest U (code_yields (Gives U) gives) (first_is_fault U (fault_of (shape_of s) fault) first) in
-      let values = standing_laws.in_set (shape_of s) turns (pick script step) l R [] [] A [] U gives in (
+      let told : all_assigned found.items ≡ stands l code_story = stand ∙ set_told (shape_of s) turns (pick script step) l R [] [] A [] U gives in
+      let yields : (outcome_of code_story).result ≡ Gives U = ap (λ (o : Outcome). o.result) (code_outcomes (shape_of s) turns (pick script step) R [] [] A []) ∙ gives in (
         U,
         ended.0 ∙ ap (λ k. AtFault k U) (sym at),
-        record { first = first; values = subst (AreValuesAt U l) (sym stand) values },
-        (R, resolved, stand ∙ ap (λ B. coded_at (shape_of s) turns (pick script step) R B fault) (sym ended.1)),
+        record { first = first; values = subst (AreValuesAt U l) (sym told) (standing_laws.in_set l code_story U yields) },
+        told ∙ ap (stands l) (same_story ∙ ap story (sym ended.1)),
       )

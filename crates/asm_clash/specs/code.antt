@@ -1,3 +1,5 @@
 -- Bridge to the code. What connects the definitions of this crate to its code.
 pub mod BoundValues
+pub mod StandingCodes
 pub mod StandingRules
+pub mod StepEnds

@@ -7,8 +7,8 @@ ghost use Rattle.asm_code.specs.code.RuleViews.{target_code_of};
 ghost use Rattle.asm_code.specs.code.SoundCodes.{IsSound};
 ghost use Rattle.asm_eval.specs.code.Frames.{IsSoundFrame, code_value};
 ghost use Rattle.asm_eval.specs.code.Evaluation.{target_in};
-ghost use Rattle.asm_clash.specs.Standing.{assigned_at};
-ghost use Rattle.asm_clash.specs.code.StandingRules.{all_assigned};
+ghost use Rattle.asm_clash.specs.code.StandingCodes.{assigned_at};
+ghost use Rattle.asm_clash.specs.Standing.{all_assigned};
 
 use crate::assignment::Assignment;
 use crate::bound_values::{arguments_at, values_bound};

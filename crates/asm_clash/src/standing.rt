@@ -11,8 +11,8 @@ ghost use Rattle.asm_code.specs.code.RuleViews.{rule_of, rules_of};
 ghost use Rattle.asm_eval.specs.code.Frames.{IsSoundFrame};
 ghost use Rattle.asm_eval.specs.code.Pieces.{IsPiece};
 ghost use Rattle.asm_eval.specs.code.Evaluation.{rule_upon, evaluation_shape, evaluation_state};
-ghost use Rattle.asm_clash.specs.Standing.{later};
-ghost use Rattle.asm_clash.specs.code.StandingRules.{IsNext, all_assigned, order_in, stands_at, stands_in};
+ghost use Rattle.asm_clash.specs.Standing.{later, all_assigned};
+ghost use Rattle.asm_clash.specs.code.StandingRules.{IsNext, order_in, stands_at, stands_in};
 
 use crate::assigned::assigned;
 use crate::assignment::Assignment;

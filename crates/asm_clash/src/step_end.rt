@@ -9,7 +9,8 @@ ghost use Rattle.asm_meaning.specs.code.TermValues.{shown};
 ghost use Rattle.asm_code.specs.code.RuleMeaning.{IsSoundRule};
 ghost use Rattle.asm_code.specs.code.RuleViews.{rule_of};
 ghost use Rattle.asm_eval.specs.declared.frame.Frame.TheVariants as bare;
-ghost use Rattle.asm_clash.specs.ClashOfRun.{IsStepEnd, location_of};
+ghost use Rattle.asm_clash.specs.ClashOfRun.{location_of};
+ghost use Rattle.asm_clash.specs.code.StepEnds.{IsStepEnd};
 
 use crate::assignment::Assignment;
 use crate::standing::standing_in;

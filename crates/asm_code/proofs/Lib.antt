@@ -1,3 +1,4 @@
 pub mod CodeForms
 pub mod RuleForms
 pub mod SharedCodes
+pub mod RuleStories

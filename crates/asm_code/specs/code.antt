@@ -5,6 +5,7 @@ pub mod CodeViews
 pub mod Powers
 pub mod Readings
 pub mod RuleMeaning
+pub mod RuleStories
 pub mod RuleTree
 pub mod RuleViews
 pub mod Sizes

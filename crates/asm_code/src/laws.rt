@@ -8,6 +8,7 @@ ghost use Rattle.asm_state.specs.declared.operation.Op.{Op};
 ghost use Rattle.asm_state.specs.declared.value.Value.{Value};
 ghost use Rattle.asm_code.specs.code.CodeTree as tree;
 ghost use Rattle.asm_code.specs.code.CodeViews.{code_of, codes_of, link_of, links_of};
+ghost use Rattle.asm_code.specs.code.RuleStories.{AreCodeOutcomes};
 ghost use Rattle.asm_code.specs.code.RuleTree as rule_tree;
 ghost use Rattle.asm_code.specs.code.RuleViews.{target_code_of, rule_of, rules_of};
 ghost use Rattle.asm_code.specs.code.SoundCodes.{count};
@@ -84,4 +85,9 @@ pub fn rule_laws()
 pub fn sharing_laws()
     ensures codes { IsSync terms.the_row }
     ensures rules { IsSync rules.the_row }
+{}
+
+/// The story of a resolved rule yields what the rule does.
+pub fn code_outcomes()
+    ensures { AreCodeOutcomes }
 {}

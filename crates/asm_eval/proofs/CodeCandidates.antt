@@ -12,6 +12,10 @@ all_pass : {X : Type 0} (xs : List X) → filter (λ x. true) xs ≡ xs
 all_pass [] = refl
 all_pass (x ∷ xs) = ap (λ ys. x ∷ ys) (all_pass xs)
 
+pub all_pass_none : (view : View) (f : Frame) (c : Option Code) (vs : List Value) → c ≡ None → filter (is_passing view f c) vs ≡ vs
+all_pass_none view f None vs is = all_pass vs
+all_pass_none view f (Some c) vs is = cc
+
 module _ (view : View) (f : Frame) (u : ℕ) (vs : List Value) (is : slice_get (view.signature.now).universes u ≡ Some vs) where
   -- without a condition each value is a candidate
   pub all_pass_here : (c : Option Code) → is_some c ≡ false → vs ≡ passing_in view f u c

@@ -8,26 +8,27 @@
 --     part_stops, turn_stops          a part or a turn is exhausted
 --     turns_stop                      no turn is left
 use Rattle.std.proofs.Common.{◌≡◌, ◌≢◌, ℕ, zero, suc, ◌+◌, ◌-◌, ◌<◌, ◌≤◌, List, length, map, drop, slice_index_or, ◌⊎◌, sym, ap, ◌∙◌, arith, add-one}
-use Rattle.std.specs.Prelude.{Result as Returned, Err, OnOk, IfErr, IsErrAnd}
+use Rattle.std.specs.Prelude.{Result as Returned, Err, IfErr, IsErrAnd}
 use Rattle.std.proofs.lemmas.List.{at_drop_more, at_drop_all}
 use Rattle.asm_state.specs.Location.{State}
 use Rattle.asm_state.specs.Signature.{Shape}
-use Rattle.asm_state.specs.Updates.{UpdateSet, IsConsistent, none, fire}
+use Rattle.asm_state.specs.Updates.{UpdateSet, IsConsistent, none, merge, fire}
+use Rattle.asm_state.proofs.UpdateLemmas.UnionsAndMerges.{merge_laws}
 use Rattle.asm_updates.specs.code.SummaryRanges.{SummaryRanges}
-use Rattle.asm_updates.specs.code.Stands.{Stands, Adds}
 use Rattle.asm_meaning.specs.Does.{Outcome, nothing, part_and, turn_and, in_order, turns_of}
-use Rattle.asm_meaning.specs.code.FormedOutcomes.{Forms, IsMergedPart, IsStoppedAt}
+use Rattle.asm_meaning.specs.code.FormedOutcomes.{IsMergedPart, IsStoppedAt}
+use Rattle.asm_meaning.specs.code.PartSets.{IsPartSet}
 use Rattle.asm_meaning.specs.Program.{nothing_bound}
 use Rattle.asm_meaning.specs.Value.{Reading}
 use Rattle.asm_meaning.specs.Yields.{Path, Exhausted, at}
 use Rattle.asm_meaning.specs.declared.part_set.PartSet.{PartSet}
 use Rattle.asm_meaning.specs.declared.stopped.Stopped.{Stopped}
-use Rattle.asm_meaning.specs.code.SequenceUnderway.{IsUnderway}
-use Rattle.asm_meaning.proofs.Sequences.{sequence_laws-goes_on as goes_on, sequence_laws-ends as ends, sequence_laws-ends_with as ends_with, sequence_laws-ends_at as ends_at, part_laws-good_part as good_part, part_laws-faulty_part as faulty_part, part_laws-exhausted_part as exhausted_part, part_laws-good_turn as good_turn, part_laws-last_turn as last_turn, part_laws-exhausted_turn as exhausted_turn, stopping_laws-handed_on as stopped_on}
+use Rattle.asm_meaning.proofs.Sequences.{part_laws-good_part as good_part, part_laws-faulty_part as faulty_part, part_laws-exhausted_part as exhausted_part, part_laws-good_turn as good_turn, part_laws-last_turn as last_turn, part_laws-exhausted_turn as exhausted_turn, stopping_laws-handed_on as stopped_on}
 use Rattle.asm_code.specs.code.RuleMeaning.{Locations, meaning, meanings}
 use Rattle.asm_code.specs.code.RuleTree as tree
 use Rattle.asm_code.specs.code.RuleViews.{rule_of, rules_of}
 use Rattle.asm_code.specs.declared.rule_code.RuleCode.{RuleCode}
+use Rattle.asm_eval.proofs.SequencesUpon.{IsUpon, upon_goes_on, upon_ends_with, upon_ends, upon_ends_at}
 
 module _ (shape : Shape) (turns : ℕ) (chosen : Path → ℕ) (rs : List Reading) (ls : Locations) (p : Path) where
   abbrev in_order_from : ℕ → List RuleCode → State → Outcome
@@ -82,74 +83,80 @@ module _ (shape : Shape) (turns : ℕ) (chosen : Path → ℕ) (rs : List Readin
   no_turn : (limit t : ℕ) (r : tree.RuleCode) (A : State) → limit ≤ t → (turns_left limit r t A).result ≡ Exhausted p
   no_turn limit t r A past = ap (λ n. (turns_from n t r A).result) (none_left limit t past)
 
-  module _ (A : State) (total : Outcome) (so_far : SummaryRanges) (before now : ℕ) where
+  module _ (A : State) (U : UpdateSet) (total : Outcome) (so_far : SummaryRanges) (whole : PartSet) (before now : ℕ) where
     -- ---- parts
 
-    module _ (Ps : List RuleCode) (i : ℕ) (under : IsUnderway shape A total (parts_left Ps i) so_far before now) where
+    module _ (Ps : List RuleCode) (i : ℕ) (under : IsUpon shape U (fire A U) total (parts_left Ps i) so_far whole before now) where
+      abbrev parts_then : UpdateSet → Outcome
+      parts_then V = parts_left Ps (i + 1) (fire (fire (fire A U) under.set) V)
+
       module _ (q : Path) (P : RuleCode) (same : q ≡ p) (low : i < length Ps) (is : P ≡ slice_index_or Ps i P) where
         abbrev part : Outcome
-        part = numbered q i (rule_of P) (fire A under.set)
+        part = numbered q i (rule_of P) (fire A (merge U under.set))
 
-        then_part : parts_left Ps i (fire A under.set) ≡ part_then part (λ U. parts_left Ps (i + 1) (fire (fire A under.set) U))
-        then_part = next_part q Ps i P (fire A under.set) same low is
+        then_part : parts_left Ps i (fire (fire A U) under.set) ≡ part_then part parts_then
+        then_part =
+            next_part q Ps i P (fire (fire A U) under.set) same low is
+            ∙ ap (λ (B : State). part_then (numbered q i (rule_of P) B) parts_then) (sym (merge_laws.firing A U under.set))
 
-        pub part_goes_on : (joined : SummaryRanges) (is_set : PartSet) (after : ℕ) (on : IsMergedPart shape part under.set joined is_set now after) → IsConsistent on.set
-            → IsUnderway shape A total (parts_left Ps (i + 1)) joined before after
-        part_goes_on joined is_set after on consistent =
-            goes_on shape A total (parts_left Ps i) so_far before now under part (parts_left Ps (i + 1)) joined is_set after on consistent
-            (then_part ∙ good_part part on.set (λ U. parts_left Ps (i + 1) (fire (fire A under.set) U)) on.gives consistent)
+        pub part_goes_on : (joined : SummaryRanges) (is_set both : PartSet) (after : ℕ) (on : IsMergedPart shape part (merge U under.set) joined is_set now after) → IsConsistent on.set
+            → IsPartSet (merge under.set on.set) both → IsUpon shape U (fire A U) total (parts_left Ps (i + 1)) joined both before after
+        part_goes_on joined is_set both after on consistent joins =
+            upon_goes_on shape U (fire A U) total (parts_left Ps i) so_far whole before now under part (parts_left Ps (i + 1)) joined is_set both after on consistent joins
+            (then_part ∙ good_part part on.set parts_then on.gives consistent)
 
-        pub part_ends : {T : Type 0} (joined : SummaryRanges) (is_set : PartSet) (was old new : SummaryRanges) (after n : ℕ) (returned : Returned T Stopped) (on : IsMergedPart shape part under.set joined is_set now after)
-            → ¬ (IsConsistent on.set) → was ≡ old → n ≡ after → ((V : UpdateSet) → Stands shape joined V → OnOk returned (Adds shape V was new))
-            → OnOk returned (Forms shape total old new before n)
-        part_ends joined is_set was old new after n returned on faulty kept counted put =
-            ends_with shape A total (parts_left Ps i) so_far before now under was old new n returned kept part joined is_set after on counted
-            (then_part ∙ faulty_part part on.set (λ U. parts_left Ps (i + 1) (fire (fire A under.set) U)) on.gives faulty) put
+        pub part_ends : (joined : SummaryRanges) (is_set both : PartSet) (after : ℕ) (on : IsMergedPart shape part (merge U under.set) joined is_set now after) → ¬ (IsConsistent on.set)
+            → IsPartSet (merge under.set on.set) both → IsMergedPart shape total U joined both before after
+        part_ends joined is_set both after on faulty joins =
+            upon_ends_with shape U (fire A U) total (parts_left Ps i) so_far whole before now under part joined is_set both after on joins
+            (then_part ∙ faulty_part part on.set parts_then on.gives faulty)
 
         pub part_stops : {S T : Type 0} (path : Path) (given : Returned S Stopped) (returned : Returned T Stopped) (stop : Stopped)
             → given ≡ Err stop → IsErrAnd returned (λ again. again ≡ stop) → IfErr given (IsStoppedAt part path) → IfErr returned (IsStoppedAt total path)
         part_stops path given returned stop was again =
             stopped_on part total path given returned stop was again
-            (λ there at. ends_at shape A total (parts_left Ps i) so_far before now under there
-            (ap (λ (o : Outcome). o.result) then_part ∙ exhausted_part part (λ U. parts_left Ps (i + 1) (fire (fire A under.set) U)) there at))
+            (λ there at. upon_ends_at shape U (fire A U) total (parts_left Ps i) so_far whole before now under there
+            (ap (λ (o : Outcome). o.result) then_part ∙ exhausted_part part parts_then there at))
 
-      pub parts_end : {T : Type 0} (was old new : SummaryRanges) (n : ℕ) (returned : Returned T Stopped) → length Ps ≤ i → was ≡ old → n ≡ now
-          → ((V : UpdateSet) → Stands shape so_far V → OnOk returned (Adds shape V was new)) → OnOk returned (Forms shape total old new before n)
-      parts_end was old new n returned past kept counted put =
-          ends shape A total (parts_left Ps i) so_far before now under was old new n returned kept counted (no_part Ps i (fire A under.set) past) put
+      pub parts_end : length Ps ≤ i → IsMergedPart shape total U so_far whole before now
+      parts_end past = upon_ends shape U (fire A U) total (parts_left Ps i) so_far whole before now under (no_part Ps i (fire (fire A U) under.set) past)
 
     -- ---- turns
 
-    module _ (limit : ℕ) (r : tree.RuleCode) (t : ℕ) (under : IsUnderway shape A total (turns_left limit r t) so_far before now) where
+    module _ (limit : ℕ) (r : tree.RuleCode) (t : ℕ) (under : IsUpon shape U (fire A U) total (turns_left limit r t) so_far whole before now) where
+      abbrev turns_then : UpdateSet → Outcome
+      turns_then V = turns_left limit r (t + 1) (fire (fire (fire A U) under.set) V)
+
       module _ (q : Path) (number : ℕ) (same : q ≡ p) (low : t < limit) (is : number ≡ t) where
         abbrev turn : Outcome
-        turn = numbered q number r (fire A under.set)
+        turn = numbered q number r (fire A (merge U under.set))
 
-        then_turn : turns_left limit r t (fire A under.set) ≡ turn_then turn (λ U. turns_left limit r (t + 1) (fire (fire A under.set) U))
-        then_turn = next_turn q limit t number r (fire A under.set) same low is
+        then_turn : turns_left limit r t (fire (fire A U) under.set) ≡ turn_then turn turns_then
+        then_turn =
+            next_turn q limit t number r (fire (fire A U) under.set) same low is
+            ∙ ap (λ (B : State). turn_then (numbered q number r B) turns_then) (sym (merge_laws.firing A U under.set))
 
-        pub turn_goes_on : (joined : SummaryRanges) (is_set : PartSet) (after : ℕ) (on : IsMergedPart shape turn under.set joined is_set now after) → on.set ≢ none → IsConsistent on.set
-            → IsUnderway shape A total (turns_left limit r (t + 1)) joined before after
-        turn_goes_on joined is_set after on some consistent =
-            goes_on shape A total (turns_left limit r t) so_far before now under turn (turns_left limit r (t + 1)) joined is_set after on consistent
-            (then_turn ∙ good_turn turn on.set (λ U. turns_left limit r (t + 1) (fire (fire A under.set) U)) on.gives some consistent)
+        pub turn_goes_on : (joined : SummaryRanges) (is_set both : PartSet) (after : ℕ) (on : IsMergedPart shape turn (merge U under.set) joined is_set now after) → on.set ≢ none → IsConsistent on.set
+            → IsPartSet (merge under.set on.set) both → IsUpon shape U (fire A U) total (turns_left limit r (t + 1)) joined both before after
+        turn_goes_on joined is_set both after on some consistent joins =
+            upon_goes_on shape U (fire A U) total (turns_left limit r t) so_far whole before now under turn (turns_left limit r (t + 1)) joined is_set both after on consistent joins
+            (then_turn ∙ good_turn turn on.set turns_then on.gives some consistent)
 
-        pub turn_ends : {T : Type 0} (joined : SummaryRanges) (is_set : PartSet) (was old new : SummaryRanges) (after n : ℕ) (returned : Returned T Stopped) (on : IsMergedPart shape turn under.set joined is_set now after)
-            → (on.set ≡ none) ⊎ (¬ (IsConsistent on.set)) → was ≡ old → n ≡ after → ((V : UpdateSet) → Stands shape joined V → OnOk returned (Adds shape V was new))
-            → OnOk returned (Forms shape total old new before n)
-        turn_ends joined is_set was old new after n returned on last kept counted put =
-            ends_with shape A total (turns_left limit r t) so_far before now under was old new n returned kept turn joined is_set after on counted
-            (then_turn ∙ last_turn turn on.set (λ U. turns_left limit r (t + 1) (fire (fire A under.set) U)) on.gives last) put
+        pub turn_ends : (joined : SummaryRanges) (is_set both : PartSet) (after : ℕ) (on : IsMergedPart shape turn (merge U under.set) joined is_set now after) → (on.set ≡ none) ⊎ (¬ (IsConsistent on.set))
+            → IsPartSet (merge under.set on.set) both → IsMergedPart shape total U joined both before after
+        turn_ends joined is_set both after on last joins =
+            upon_ends_with shape U (fire A U) total (turns_left limit r t) so_far whole before now under turn joined is_set both after on joins
+            (then_turn ∙ last_turn turn on.set turns_then on.gives last)
 
         pub turn_stops : {S T : Type 0} (path : Path) (given : Returned S Stopped) (returned : Returned T Stopped) (stop : Stopped)
             → given ≡ Err stop → IsErrAnd returned (λ again. again ≡ stop) → IfErr given (IsStoppedAt turn path) → IfErr returned (IsStoppedAt total path)
         turn_stops path given returned stop was again =
             stopped_on turn total path given returned stop was again
-            (λ there at. ends_at shape A total (turns_left limit r t) so_far before now under there
-            (ap (λ (o : Outcome). o.result) then_turn ∙ exhausted_turn turn (λ U. turns_left limit r (t + 1) (fire (fire A under.set) U)) there at))
+            (λ there at. upon_ends_at shape U (fire A U) total (turns_left limit r t) so_far whole before now under there
+            (ap (λ (o : Outcome). o.result) then_turn ∙ exhausted_turn turn turns_then there at))
 
       pub turns_stop : limit ≤ t → total.result ≡ Exhausted p
-      turns_stop past = ends_at shape A total (turns_left limit r t) so_far before now under p (no_turn limit t r (fire A under.set) past)
+      turns_stop past = upon_ends_at shape U (fire A U) total (turns_left limit r t) so_far whole before now under p (no_turn limit t r (fire (fire A U) under.set) past)
 
   pub iterate_yields_turns : (r : tree.RuleCode) (A : State) → turns_left turns r 0 A ≡ meaning shape turns chosen (tree.Iterate r) rs ls A p
   unfolding meaning

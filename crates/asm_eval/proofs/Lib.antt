@@ -1,11 +1,14 @@
 pub mod Powers
 pub mod Lists
+pub mod BlockLemmas
 pub mod Members
 pub mod ValueCases
 pub mod Arguments
 pub mod Quantified
 pub mod SpanLaws
 pub mod CodePaths
+pub mod SequencesUpon
+pub mod SpanElements
 pub mod CodeSequences
 pub mod SingleUpdates
 pub mod RuleYields

@@ -34,6 +34,15 @@ module _ (shape : Shape) (rs : List Reading) (A : State) where
   unfolding reading
   of_local t i v is valued = valued ∙ sym (ap (λ k. reading shape k rs A) (local_form t i is))
 
+  -- the first position, under one value more, and those after it
+  pub local_first : (v : Value) (i : ℕ) → i ≡ 0 → v ≡ reading shape (tree.Local i) (always v ∷ rs) A
+  unfolding reading
+  local_first v i is = sym (ap (λ j. at_position (always v ∷ rs) j A) is)
+
+  pub local_later : (v w : Value) (i : ℕ) → ¬ (i ≡ 0) → w ≡ at_position rs (i - 1) A → w ≡ reading shape (tree.Local i) (always v ∷ rs) A
+  unfolding reading
+  local_later v w i other valued = valued ∙ sym (ap (λ r. r A) (later (always v) rs i other))
+
   pub of_cell : (t : Code) (n : ℕ) (v : Value) → t ≡ code.Cell n → v ≡ content shape A n → v ≡ reading shape (code_of t) rs A
   unfolding reading
   of_cell t n v is valued = valued ∙ sym (ap (λ k. reading shape k rs A) (cell_form t n is))

@@ -1,5 +1,6 @@
 -- Bridge to the code. What connects the definitions of this crate to its code.
 pub mod AndChains
+pub mod Blocks
 pub mod Evaluation
 pub mod FrameBindings
 pub mod Frames

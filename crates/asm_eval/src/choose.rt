@@ -5,18 +5,20 @@
 //! more than k candidates, which this walk has counted, does it walk once more, to the candidate
 //! whose number is the remainder of k. So no list of candidates is kept, and a condition is
 //! evaluated at most three times for an element.
-ghost use Rattle.std.specs.Prelude.{◌≡◌, option_map};
+ghost use Rattle.std.specs.Prelude.{◌≡◌, ◌≤◌, option_map, take};
+ghost use Rattle.std.specs.List.{filter};
 ghost use Rattle.asm_reader.specs.ScriptLines.{pick};
 ghost use Rattle.asm_meaning.specs.Taken.{taken, found_candidate};
 ghost use Rattle.asm_code.specs.code.CodeViews.{code_of};
 ghost use Rattle.asm_code.specs.code.RuleMeaning.{IsSoundTest};
 ghost use Rattle.asm_code.specs.code.SoundCodes.{IsUniverseNumber};
 ghost use Rattle.asm_eval.specs.code.Frames.{IsSoundFrame};
-ghost use Rattle.asm_eval.specs.code.Evaluation.{passes_in, passing_in};
+ghost use Rattle.asm_eval.specs.code.Evaluation.{is_passing, passes_in, passing_in};
 
+use crate::block::BLOCK;
 use crate::evaluation::Evaluation;
 use crate::frame::Frame;
-use crate::value::holds;
+use crate::value::{holds, keep_holding};
 use asm_code::code::Code;
 use asm_meaning::View;
 use asm_meaning::found_candidate::{FoundCandidate, element_at};
@@ -32,6 +34,28 @@ pub fn passes<'e>(view: &View, frame: &'e Frame<'e>, test: &'e Option<Code>) -> 
     match test {
         None => true,
         Some(test) => holds(view, frame, test),
+    }
+}
+
+/// Keeps the elements for which, at position 0, the condition holds: all if there is none. Returns
+/// how many they are.
+#[inline(always)]
+pub(crate) fn keep_passing<'e>(
+    view: &View,
+    frame: &'e Frame<'e>,
+    test: &'e Option<Code>,
+    count: usize,
+    elements: &mut [Word; BLOCK],
+) -> usize
+    requires few { count ≤ 16 }
+    requires sound { IsSoundTest view.now.signature.now (option_map code_of test.now) }
+    requires framed { IsSoundFrame view.now.signature.now frame.now }
+    ensures few { result ≤ count }
+    ensures kept { take result elements.new ≡ filter (is_passing view.now frame.now test.now) (take count elements.old) }
+{
+    match test {
+        None => count,
+        Some(test) => keep_holding(view, frame, test, count, elements),
     }
 }
 

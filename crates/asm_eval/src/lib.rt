@@ -2,6 +2,7 @@
 #![tactic(auto)]
 
 mod applied;
+mod block;
 pub mod choose;
 pub mod evaluation;
 mod find;

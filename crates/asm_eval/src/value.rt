@@ -6,10 +6,10 @@
 //! recursion ends because the size of the code, with the bodies of its derived functions written
 //! out, together with the sizes of the codes in its frame, falls (`asm_code/specs/code/Sizes.antt`,
 //! `frame_size` in `specs/code/Frames.antt`).
-ghost use Rattle.std.specs.Prelude.{◌≡◌, ◌≤◌, ◌<◌, ◌*◌, length, map, true};
-ghost use Rattle.std.specs.List.{list_all};
+ghost use Rattle.std.specs.Prelude.{◌≡◌, ◌≤◌, ◌<◌, ◌*◌, length, map, take, drop, true};
+ghost use Rattle.std.specs.List.{filter, list_all, list_any};
 ghost use Rattle.asm_state.specs.Signature.{functions_of};
-ghost use Rattle.asm_state.specs.declared.operation.Op.TheVariants.{Add, Remainder, Equal, Or};
+ghost use Rattle.asm_state.specs.declared.operation.Op.TheVariants.{Add, And, Remainder, Equal, Or};
 ghost use Rattle.asm_state.specs.declared.value.Value.TheVariants.{Truth, Number as Whole};
 ghost use Rattle.asm_eval.specs.code.AndChains as conditions;
 ghost use Rattle.asm_eval.specs.code.AndChains.{is_and};
@@ -17,10 +17,15 @@ ghost use Rattle.asm_meaning.specs.Value as spec;
 ghost use Rattle.asm_code.specs.code.CodeTree as tree;
 ghost use Rattle.asm_code.specs.code.CodeViews.{code_of, codes_of, link_of, links_of};
 ghost use Rattle.asm_code.specs.code.SoundCodes.{AreCells, AreSoundLinks, IsSound, IsUniverseNumber};
+ghost use Rattle.asm_eval.specs.code.Blocks.{AreValuesFor, holds_for};
 ghost use Rattle.asm_eval.specs.code.Frames.{IsSoundFrame, bound_value, code_value, position_value, tree_value, AllSound};
 
 use crate::applied::{
     added, applied, applied_by_call, are_ands, equal_to, is_true_of, remainder_by,
+};
+use crate::block::{
+    BLOCK, add_each, apply_each, apply_to_pairs, elements_from, equal_each, fill, grids_at,
+    keep_tested, remainder_of_each, rows_at,
 };
 use crate::find::{FrameBinding, find};
 use crate::frame::Frame;
@@ -32,10 +37,20 @@ use asm_code::modulus::Modulus;
 use asm_meaning::View;
 use asm_state::number::Number;
 use asm_state::operation::Op;
+use asm_state::universe::Universe;
 use asm_state::word::Word;
 
 /// The most arguments that are valued in one array. A function that has more is a derived one.
 const MAX_ARGUMENTS: usize = 4;
+
+/// Fewer elements than this are looked at one by one.
+const MIN_AT_ONCE: usize = 6;
+
+/// A universe with fewer values is looked at value by value.
+const MIN_IN_BLOCKS: usize = 8;
+
+/// So many values of a larger one are looked at one by one, before the first block.
+const FIRST_ALONE: usize = 4;
 
 /// The arguments of a function that has more are valued in arrays for this many each.
 const MAX_BOUND_AT_ONCE: usize = 64;
@@ -602,7 +617,8 @@ fn linked<'e, 'b>(
     linked(view, frame, &more, body, others)
 }
 
-/// Whether the test has the value true for some value of the universe.
+/// Whether the test has the value true for some value of the universe. A few values are looked at
+/// one by one, and then block after block.
 #[cycle(value)]
 #[inline(never)]
 fn exists<'e>(view: &View, frame: &'e Frame<'e>, over: usize, test: &'e Code) -> bool
@@ -612,7 +628,9 @@ fn exists<'e>(view: &View, frame: &'e Frame<'e>, over: usize, test: &'e Code) ->
     ensures { Truth result ≡ tree_value view.now frame.now (tree.Exists over (code_of test.now)) }
 {
     let universe = view.signature.universe(over);
-    for i in 0..universe.size() {
+    let size = universe.size();
+    let alone = alone_of(size);
+    for i in 0..alone {
         let bound = Frame::One {
             value: universe.element(i).unbranded_code(),
             outer: frame,
@@ -622,10 +640,54 @@ fn exists<'e>(view: &View, frame: &'e Frame<'e>, over: usize, test: &'e Code) ->
             return true;
         }
     }
+    if alone == size {
+        return false;
+    }
+    exists_from(view, frame, universe, alone, test)
+}
+
+/// How many values of a universe of this size are looked at one by one. Most searches that end
+/// early end with one of the first.
+#[inline(always)]
+fn alone_of(size: usize) -> usize
+    ensures { result ≤ size }
+{
+    if size < MIN_IN_BLOCKS {
+        size
+    } else {
+        FIRST_ALONE
+    }
+}
+
+/// Whether the test has the value true for some value of the universe from a position on, block
+/// after block.
+#[cycle(value)]
+#[inline(never)]
+fn exists_from<'e>(
+    view: &View,
+    frame: &'e Frame<'e>,
+    universe: &Universe,
+    from: usize,
+    test: &'e Code,
+) -> bool
+    requires sound { IsSound view.now.signature.now (code_of test.now) }
+    requires framed { IsSoundFrame view.now.signature.now frame.now }
+    ensures { result ≡ list_any (holds_for view.now frame.now (code_of test.now)) (drop from universe.now) }
+{
+    let size = universe.size();
+    let mut i = from;
+    while i < size {
+        let count = (size - i).min(BLOCK);
+        let mut elements = elements_from(universe, i, count);
+        if keep_holding(view, frame, test, count, &mut elements) > 0 {
+            return true;
+        }
+        i += count;
+    }
     false
 }
 
-/// Whether the test has the value true for each value of the universe.
+/// Whether the test has the value true for each value of the universe, looked at in the same way.
 #[cycle(value)]
 #[inline(never)]
 fn every<'e>(view: &View, frame: &'e Frame<'e>, over: usize, test: &'e Code) -> bool
@@ -635,7 +697,9 @@ fn every<'e>(view: &View, frame: &'e Frame<'e>, over: usize, test: &'e Code) -> 
     ensures { Truth result ≡ tree_value view.now frame.now (tree.Every over (code_of test.now)) }
 {
     let universe = view.signature.universe(over);
-    for i in 0..universe.size() {
+    let size = universe.size();
+    let alone = alone_of(size);
+    for i in 0..alone {
         let bound = Frame::One {
             value: universe.element(i).unbranded_code(),
             outer: frame,
@@ -645,5 +709,518 @@ fn every<'e>(view: &View, frame: &'e Frame<'e>, over: usize, test: &'e Code) -> 
             return false;
         }
     }
+    if alone == size {
+        return true;
+    }
+    every_from(view, frame, universe, alone, test)
+}
+
+/// Whether the test has the value true for each value of the universe from a position on.
+#[cycle(value)]
+#[inline(never)]
+fn every_from<'e>(
+    view: &View,
+    frame: &'e Frame<'e>,
+    universe: &Universe,
+    from: usize,
+    test: &'e Code,
+) -> bool
+    requires sound { IsSound view.now.signature.now (code_of test.now) }
+    requires framed { IsSoundFrame view.now.signature.now frame.now }
+    ensures { result ≡ list_all (holds_for view.now frame.now (code_of test.now)) (drop from universe.now) }
+{
+    let size = universe.size();
+    let mut i = from;
+    while i < size {
+        let count = (size - i).min(BLOCK);
+        let mut elements = elements_from(universe, i, count);
+        if keep_holding(view, frame, test, count, &mut elements) < count {
+            return false;
+        }
+        i += count;
+    }
     true
+}
+
+/// Keeps the elements for which, at position 0, the code has the value true. Returns how many they
+/// are.
+#[cycle(value)]
+#[inline(never)]
+pub(crate) fn keep_holding<'e>(
+    view: &View,
+    frame: &'e Frame<'e>,
+    code: &'e Code,
+    count: usize,
+    elements: &mut [Word; BLOCK],
+) -> usize
+    requires few { count ≤ 16 }
+    requires sound { IsSound view.now.signature.now (code_of code.now) }
+    requires framed { IsSoundFrame view.now.signature.now frame.now }
+    ensures few { result ≤ count }
+    ensures room { length elements.new ≡ 16 }
+    ensures kept { take result elements.new ≡ filter (holds_for view.now frame.now (code_of code.now)) (take count elements.old) }
+{
+    if count < MIN_AT_ONCE {
+        return keep_singly(view, frame, code, count, elements);
+    }
+    match code {
+        Code::Both {
+            operation: Op::And,
+            left,
+            right,
+        } => keep_both(view, frame, left, right, count, elements),
+        Code::Chain { first, rest } => {
+            keep_chain(view, frame, first, rest.as_slice(), count, elements)
+        }
+        Code::Exists { .. }
+        | Code::Every { .. }
+        | Code::Derived { .. }
+        | Code::DerivedOne { .. }
+        | Code::DerivedTwo { .. } => keep_singly(view, frame, code, count, elements),
+        _ => keep_valued(view, frame, code, count, elements),
+    }
+}
+
+/// Keeps the elements for which both operands have the value true.
+#[cycle(value)]
+#[inline(never)]
+fn keep_both<'e>(
+    view: &View,
+    frame: &'e Frame<'e>,
+    left: &'e Code,
+    right: &'e Code,
+    count: usize,
+    elements: &mut [Word; BLOCK],
+) -> usize
+    requires few { count ≤ 16 }
+    requires left { IsSound view.now.signature.now (code_of left.now) }
+    requires right { IsSound view.now.signature.now (code_of right.now) }
+    requires framed { IsSoundFrame view.now.signature.now frame.now }
+    ensures few { result ≤ count }
+    ensures room { length elements.new ≡ 16 }
+    ensures kept { take result elements.new ≡ filter (holds_for view.now frame.now (tree.Both And (code_of left.now) (code_of right.now))) (take count elements.old) }
+{
+    let kept = keep_holding(view, frame, left, count, elements);
+    keep_holding(view, frame, right, kept, elements)
+}
+
+/// Keeps the elements for which a chain has the value true.
+#[cycle(value)]
+#[inline(never)]
+fn keep_chain<'e>(
+    view: &View,
+    frame: &'e Frame<'e>,
+    first: &'e Code,
+    rest: &'e [(Op, Code)],
+    count: usize,
+    elements: &mut [Word; BLOCK],
+) -> usize
+    requires few { count ≤ 16 }
+    requires first { IsSound view.now.signature.now (code_of first.now) }
+    requires rest { AreSoundLinks view.now.signature.now (links_of (map link_of rest.now)) }
+    requires framed { IsSoundFrame view.now.signature.now frame.now }
+    ensures few { result ≤ count }
+    ensures room { length elements.new ≡ 16 }
+    ensures kept { take result elements.new ≡ filter (holds_for view.now frame.now (tree.Chain (code_of first.now) (links_of (map link_of rest.now)))) (take count elements.old) }
+{
+    if are_ands(rest) {
+        return keep_ands(view, frame, first, rest, count, elements);
+    }
+    let mut tests = [Word::undef(); BLOCK];
+    chain_values(view, frame, first, rest, count, elements, &mut tests);
+    keep_tested(count, &tests, elements)
+}
+
+/// Keeps the elements for which each operand of a chain of `and` has the value true.
+#[cycle(value)]
+#[inline(never)]
+fn keep_ands<'e>(
+    view: &View,
+    frame: &'e Frame<'e>,
+    first: &'e Code,
+    rest: &'e [(Op, Code)],
+    count: usize,
+    elements: &mut [Word; BLOCK],
+) -> usize
+    requires few { count ≤ 16 }
+    requires first { IsSound view.now.signature.now (code_of first.now) }
+    requires rest { AreSoundLinks view.now.signature.now (links_of (map link_of rest.now)) }
+    requires ands { list_all is_and rest.now ≡ true }
+    requires framed { IsSoundFrame view.now.signature.now frame.now }
+    ensures few { result ≤ count }
+    ensures room { length elements.new ≡ 16 }
+    ensures kept { take result elements.new ≡ filter (holds_for view.now frame.now (tree.Chain (code_of first.now) (links_of (map link_of rest.now)))) (take count elements.old) }
+{
+    let mut kept = keep_holding(view, frame, first, count, elements);
+    for i in 0..rest.len() {
+        kept = keep_holding(view, frame, &rest[i].1, kept, elements);
+    }
+    kept
+}
+
+/// The same of any code, valued for all elements at once.
+#[cycle(value)]
+#[inline(never)]
+fn keep_valued<'e>(
+    view: &View,
+    frame: &'e Frame<'e>,
+    code: &'e Code,
+    count: usize,
+    elements: &mut [Word; BLOCK],
+) -> usize
+    requires few { count ≤ 16 }
+    requires sound { IsSound view.now.signature.now (code_of code.now) }
+    requires framed { IsSoundFrame view.now.signature.now frame.now }
+    ensures few { result ≤ count }
+    ensures room { length elements.new ≡ 16 }
+    ensures kept { take result elements.new ≡ filter (holds_for view.now frame.now (code_of code.now)) (take count elements.old) }
+{
+    let mut tests = [Word::undef(); BLOCK];
+    values(view, frame, code, count, elements, &mut tests);
+    keep_tested(count, &tests, elements)
+}
+
+/// The same, element by element.
+#[cycle(value)]
+#[inline(never)]
+fn keep_singly<'e>(
+    view: &View,
+    frame: &'e Frame<'e>,
+    code: &'e Code,
+    count: usize,
+    elements: &mut [Word; BLOCK],
+) -> usize
+    requires few { count ≤ 16 }
+    requires sound { IsSound view.now.signature.now (code_of code.now) }
+    requires framed { IsSoundFrame view.now.signature.now frame.now }
+    ensures few { result ≤ count }
+    ensures room { length elements.new ≡ 16 }
+    ensures kept { take result elements.new ≡ filter (holds_for view.now frame.now (code_of code.now)) (take count elements.old) }
+{
+    let mut kept = 0;
+    for k in 0..count {
+        let element = elements[k];
+        let bound = Frame::One {
+            value: element.unbranded_code(),
+            outer: frame,
+        };
+        if holds(view, &bound, code) {
+            elements[kept] = element;
+            kept += 1;
+        }
+    }
+    kept
+}
+
+/// The values of the code for each of the elements, which stand at position 0 in turn. Node by
+/// node, each is valued for all elements.
+#[cycle(value)]
+#[inline(never)]
+fn values<'e>(
+    view: &View,
+    frame: &'e Frame<'e>,
+    code: &'e Code,
+    count: usize,
+    elements: &[Word; BLOCK],
+    out: &mut [Word; BLOCK],
+)
+    requires few { count ≤ 16 }
+    requires sound { IsSound view.now.signature.now (code_of code.now) }
+    requires framed { IsSoundFrame view.now.signature.now frame.now }
+    ensures { AreValuesFor view.now frame.now (code_of code.now) count elements.now out.new }
+{
+    match code {
+        Code::Constant(value) => fill(*value, out),
+        Code::Local(position) => local_values(view, frame, *position, elements, out),
+        Code::Cell(n) => fill(cell_by_call(view, *n), out),
+        Code::Row {
+            first,
+            over,
+            argument,
+        } => row_values(view, frame, *first, *over, argument, count, elements, out),
+        Code::Grid { place, row, column } => {
+            grid_values(view, frame, place, row, column, count, elements, out)
+        }
+        Code::With {
+            operation,
+            left,
+            right,
+        } => with_values(view, frame, *operation, left, *right, count, elements, out),
+        Code::Plus { left, right } => {
+            plus_values(view, frame, left, *right, count, elements, out)
+        }
+        Code::PlusModulo { left, by, over } => {
+            plus_modulo_values(view, frame, left, *by, *over, count, elements, out)
+        }
+        Code::Modulo { left, right } => {
+            modulo_values(view, frame, left, *right, count, elements, out)
+        }
+        Code::Equals { left, right } => {
+            equals_values(view, frame, left, *right, count, elements, out)
+        }
+        Code::Both {
+            operation,
+            left,
+            right,
+        } => both_values(view, frame, *operation, left, right, count, elements, out),
+        Code::Chain { first, rest } => {
+            chain_values(view, frame, first, rest.as_slice(), count, elements, out)
+        }
+        _ => values_singly(view, frame, code, count, elements, out),
+    }
+}
+
+/// The values of what a position stands for: at position 0 the elements, and at another one the
+/// same for each.
+#[cycle(value)]
+#[inline(never)]
+fn local_values<'e>(
+    view: &View,
+    frame: &'e Frame<'e>,
+    position: usize,
+    elements: &[Word; BLOCK],
+    out: &mut [Word; BLOCK],
+)
+    requires framed { IsSoundFrame view.now.signature.now frame.now }
+    ensures { AreValuesFor view.now frame.now (tree.Local position) 16 elements.now out.new }
+{
+    if position == 0 {
+        *out = *elements;
+        return;
+    }
+    let content = local_by_call(view, frame, position - 1);
+    fill(content, out);
+}
+
+/// The contents of locations by one argument.
+#[cycle(value)]
+#[inline(never)]
+fn row_values<'e>(
+    view: &View,
+    frame: &'e Frame<'e>,
+    first: usize,
+    over: CodeRange,
+    argument: &'e Code,
+    count: usize,
+    elements: &[Word; BLOCK],
+    out: &mut [Word; BLOCK],
+)
+    requires few { count ≤ 16 }
+    requires cells { AreCells view.now.signature.now first over.count }
+    requires sound { IsSound view.now.signature.now (code_of argument.now) }
+    requires framed { IsSoundFrame view.now.signature.now frame.now }
+    ensures { AreValuesFor view.now frame.now (tree.Row first over.low over.count (code_of argument.now)) count elements.now out.new }
+{
+    values(view, frame, argument, count, elements, out);
+    rows_at(view, first, over, count, out);
+}
+
+/// The values of an operation whose right operand is known.
+#[cycle(value)]
+#[inline(never)]
+fn with_values<'e>(
+    view: &View,
+    frame: &'e Frame<'e>,
+    operation: Op,
+    left: &'e Code,
+    right: Word,
+    count: usize,
+    elements: &[Word; BLOCK],
+    out: &mut [Word; BLOCK],
+)
+    requires few { count ≤ 16 }
+    requires sound { IsSound view.now.signature.now (code_of left.now) }
+    requires framed { IsSoundFrame view.now.signature.now frame.now }
+    ensures { AreValuesFor view.now frame.now (tree.With operation (code_of left.now) right) count elements.now out.new }
+{
+    values(view, frame, left, count, elements, out);
+    apply_each(operation, count, right, out);
+}
+
+/// The values of an addition whose right operand is known.
+#[cycle(value)]
+#[inline(never)]
+fn plus_values<'e>(
+    view: &View,
+    frame: &'e Frame<'e>,
+    left: &'e Code,
+    right: Number,
+    count: usize,
+    elements: &[Word; BLOCK],
+    out: &mut [Word; BLOCK],
+)
+    requires few { count ≤ 16 }
+    requires sound { IsSound view.now.signature.now (code_of left.now) }
+    requires framed { IsSoundFrame view.now.signature.now frame.now }
+    ensures { AreValuesFor view.now frame.now (tree.With Add (code_of left.now) (Whole right)) count elements.now out.new }
+{
+    values(view, frame, left, count, elements, out);
+    add_each(count, right, out);
+}
+
+/// The values of a remainder by what is known.
+#[cycle(value)]
+#[inline(never)]
+fn modulo_values<'e>(
+    view: &View,
+    frame: &'e Frame<'e>,
+    left: &'e Code,
+    right: Modulus,
+    count: usize,
+    elements: &[Word; BLOCK],
+    out: &mut [Word; BLOCK],
+)
+    requires few { count ≤ 16 }
+    requires sound { IsSound view.now.signature.now (code_of left.now) }
+    requires framed { IsSoundFrame view.now.signature.now frame.now }
+    ensures { AreValuesFor view.now frame.now (tree.With Remainder (code_of left.now) (Whole right.number)) count elements.now out.new }
+{
+    values(view, frame, left, count, elements, out);
+    remainder_of_each(count, right, out);
+}
+
+/// The values of a remainder of an addition.
+#[cycle(value)]
+#[inline(never)]
+fn plus_modulo_values<'e>(
+    view: &View,
+    frame: &'e Frame<'e>,
+    left: &'e Code,
+    by: Number,
+    over: Modulus,
+    count: usize,
+    elements: &[Word; BLOCK],
+    out: &mut [Word; BLOCK],
+)
+    requires few { count ≤ 16 }
+    requires sound { IsSound view.now.signature.now (code_of left.now) }
+    requires framed { IsSoundFrame view.now.signature.now frame.now }
+    ensures { AreValuesFor view.now frame.now (tree.With Remainder (tree.With Add (code_of left.now) (Whole by)) (Whole over.number)) count elements.now out.new }
+{
+    values(view, frame, left, count, elements, out);
+    add_each(count, by, out);
+    remainder_of_each(count, over, out);
+}
+
+/// The values of a test for equality with what is known.
+#[cycle(value)]
+#[inline(never)]
+fn equals_values<'e>(
+    view: &View,
+    frame: &'e Frame<'e>,
+    left: &'e Code,
+    right: Word,
+    count: usize,
+    elements: &[Word; BLOCK],
+    out: &mut [Word; BLOCK],
+)
+    requires few { count ≤ 16 }
+    requires sound { IsSound view.now.signature.now (code_of left.now) }
+    requires framed { IsSoundFrame view.now.signature.now frame.now }
+    ensures { AreValuesFor view.now frame.now (tree.With Equal (code_of left.now) right) count elements.now out.new }
+{
+    values(view, frame, left, count, elements, out);
+    equal_each(count, right, out);
+}
+
+/// The contents of locations by two arguments.
+#[cycle(value)]
+#[inline(never)]
+fn grid_values<'e>(
+    view: &View,
+    frame: &'e Frame<'e>,
+    place: &'e Grid,
+    row: &'e Code,
+    column: &'e Code,
+    count: usize,
+    elements: &[Word; BLOCK],
+    out: &mut [Word; BLOCK],
+)
+    requires few { count ≤ 16 }
+    requires cells { AreCells view.now.signature.now place.now.first (place.now.rows.count * place.now.columns.count) }
+    requires row { IsSound view.now.signature.now (code_of row.now) }
+    requires column { IsSound view.now.signature.now (code_of column.now) }
+    requires framed { IsSoundFrame view.now.signature.now frame.now }
+    ensures { AreValuesFor view.now frame.now (tree.Grid place.now.first place.now.rows.low place.now.rows.count place.now.columns.low place.now.columns.count (code_of row.now) (code_of column.now)) count elements.now out.new }
+{
+    let mut columns = [Word::undef(); BLOCK];
+    values(view, frame, row, count, elements, out);
+    values(view, frame, column, count, elements, &mut columns);
+    grids_at(view, place, count, out, &columns);
+}
+
+/// The values of an operation with two operands.
+#[cycle(value)]
+#[inline(never)]
+fn both_values<'e>(
+    view: &View,
+    frame: &'e Frame<'e>,
+    operation: Op,
+    left: &'e Code,
+    right: &'e Code,
+    count: usize,
+    elements: &[Word; BLOCK],
+    out: &mut [Word; BLOCK],
+)
+    requires few { count ≤ 16 }
+    requires left { IsSound view.now.signature.now (code_of left.now) }
+    requires right { IsSound view.now.signature.now (code_of right.now) }
+    requires framed { IsSoundFrame view.now.signature.now frame.now }
+    ensures { AreValuesFor view.now frame.now (tree.Both operation (code_of left.now) (code_of right.now)) count elements.now out.new }
+{
+    let mut others = [Word::undef(); BLOCK];
+    values(view, frame, left, count, elements, out);
+    values(view, frame, right, count, elements, &mut others);
+    apply_to_pairs(operation, count, out, &others);
+}
+
+/// The values of operations taken from the left.
+#[cycle(value)]
+#[inline(never)]
+fn chain_values<'e>(
+    view: &View,
+    frame: &'e Frame<'e>,
+    first: &'e Code,
+    rest: &'e [(Op, Code)],
+    count: usize,
+    elements: &[Word; BLOCK],
+    out: &mut [Word; BLOCK],
+)
+    requires few { count ≤ 16 }
+    requires first { IsSound view.now.signature.now (code_of first.now) }
+    requires rest { AreSoundLinks view.now.signature.now (links_of (map link_of rest.now)) }
+    requires framed { IsSoundFrame view.now.signature.now frame.now }
+    ensures { AreValuesFor view.now frame.now (tree.Chain (code_of first.now) (links_of (map link_of rest.now))) count elements.now out.new }
+{
+    let mut others = [Word::undef(); BLOCK];
+    values(view, frame, first, count, elements, out);
+    for i in 0..rest.len() {
+        values(view, frame, &rest[i].1, count, elements, &mut others);
+        apply_to_pairs(rest[i].0, count, out, &others);
+    }
+}
+
+/// The values of any code, element by element.
+#[cycle(value)]
+#[inline(never)]
+fn values_singly<'e>(
+    view: &View,
+    frame: &'e Frame<'e>,
+    code: &'e Code,
+    count: usize,
+    elements: &[Word; BLOCK],
+    out: &mut [Word; BLOCK],
+)
+    requires few { count ≤ 16 }
+    requires sound { IsSound view.now.signature.now (code_of code.now) }
+    requires framed { IsSoundFrame view.now.signature.now frame.now }
+    ensures { AreValuesFor view.now frame.now (code_of code.now) count elements.now out.new }
+{
+    for k in 0..count {
+        let bound = Frame::One {
+            value: elements[k].unbranded_code(),
+            outer: frame,
+        };
+        out[k] = value(view, &bound, code);
+    }
 }

@@ -1,6 +1,7 @@
 -- Free. The choices that rules and runs make.
 pub mod AskedMade
 pub mod AskedOrder
+pub mod AskedParts
 pub mod AskedWorks
 pub mod ChoicePaths
 pub mod ChoicesCarried
@@ -11,6 +12,7 @@ pub mod MadeChoices
 pub mod MadeInOrder
 pub mod MadePlaces
 pub mod MadeRules
+pub mod NothingChosen
 pub mod OpenedAsks
 pub mod RunSteps
 pub mod SameRun

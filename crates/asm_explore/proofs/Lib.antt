@@ -6,6 +6,7 @@ pub mod CodeRules
 pub mod Specifications
 pub mod StepLeads
 pub mod ChoiceLemmas
+pub mod OverLimits
 pub mod StateLemmas
 pub mod OutcomeLemmas
 pub mod ScriptLemmas

@@ -1,6 +1,8 @@
 -- Free. The outcomes of a rule through all scripts.
+pub mod Chains
 pub mod ChoiceLawOfLists
 pub mod ChoiceLists
+pub mod Choiceless
 pub mod FullLists
 pub mod LeadingOutcomes
 pub mod ListLemmas

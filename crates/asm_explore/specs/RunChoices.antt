@@ -7,26 +7,25 @@
 --                             the same
 --     asked_said, asked_in    what was asked; in each step
 --     choices_made, choices_in    the choices that were made; in each step
---     AreAsked                it is what the resolved main rule asks in each step of the run
+--     asked_from, chosen_from     what the main rule asks in a step from a state, and the choices
+--                             that it makes
+--     AreAsked                it is what the main rule asks in each step of the run
 --     AreChoices              and these are the choices that it makes
 use Rattle.std.specs.Prelude.{◌≡◌, ℕ, zero, suc, List, [], ◌∷◌, ◌++◌, map}
 use Rattle.asm_state.specs.Location.{State}
 use Rattle.asm_state.specs.Updates.{fire}
 use Rattle.asm_syntax.specs.SourceTree.{Spec}
-use Rattle.asm_check.specs.Shapes.{shape_of}
 use Rattle.asm_reader.specs.code.ExactLines.{exactly}
 use Rattle.asm_reader.specs.ScriptLines.{Line, Script}
 use Rattle.asm_meaning.specs.Declarations.{specification_of}
 use Rattle.asm_meaning.specs.Run.{Specification, run}
 use Rattle.asm_meaning.specs.Scripts.{IsUnrepeated}
-use Rattle.asm_code.specs.code.RuleTree.{RuleCode}
-use Rattle.asm_resolve.specs.code.RuleScopes.{resolved_rule_in}
+use Rattle.asm_meaning.specs.Story.{step_tells}
 use Rattle.asm_explore.specs.declared.choices.choice_point.ChoicePoint.{ChoicePoint}
 use Rattle.asm_explore.specs.declared.outcomes.listed_outcome.Choice.{Choice}
 use Rattle.asm_explore.specs.declared.choices.run_choices.RunChoices.{RunChoices}
-use Rattle.asm_explore.specs.ChoicePoints.{Asking, after_set, asks_in}
+use Rattle.asm_explore.specs.ChoicePoints.{Asking, choices_of, asked, after_set}
 use Rattle.asm_explore.specs.code.OutcomeLists.{Situation}
-use Rattle.asm_explore.specs.code.ChoicesMade.{made_in}
 use Rattle.asm_explore.specs.code.ReachedStates.{steps_from}
 use Rattle.asm_explore.specs.code.ScriptTo.{lines_for}
 
@@ -70,15 +69,16 @@ choices_made asked = map (λ a. a.choice) asked
 abbrev pub choices_in : RunChoices → List (List Choice)
 choices_in run = map (λ asked. choices_made asked.items) run.steps.items
 
-module _ (spec : Spec) (turns : ℕ) (script : Script) (limit : ℕ) where
-  -- the rule that a specification starts with, resolved
-  pub record IsOfMain {X : Type 0} (its : RuleCode → State → Situation → X) (steps : List X) : Type 0 where
-    pub main : RuleCode
-    pub resolved : resolved_rule_in spec [] (specification_of spec).main main
-    pub steps_are : steps ≡ of_run (specification_of spec) turns (its main) script limit
+module _ (specification : Specification) (turns : ℕ) where
+  abbrev pub asked_from : State → Situation → List Asking
+  asked_from A s = asked (step_tells specification turns s.script s.step A)
 
+  abbrev pub chosen_from : State → Situation → List Choice
+  chosen_from A s = choices_of (asked_from A s)
+
+module _ (spec : Spec) (turns : ℕ) (script : Script) (limit : ℕ) where
   abbrev pub AreAsked : List (List Asking) → Type 0
-  AreAsked steps = IsOfMain (asks_in (shape_of spec) turns) steps
+  AreAsked steps = steps ≡ of_run (specification_of spec) turns (asked_from (specification_of spec) turns) script limit
 
   abbrev pub AreChoices : List (List Choice) → Type 0
-  AreChoices steps = IsOfMain (made_in (shape_of spec) turns) steps
+  AreChoices steps = steps ≡ of_run (specification_of spec) turns (chosen_from (specification_of spec) turns) script limit

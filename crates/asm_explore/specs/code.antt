@@ -1,12 +1,15 @@
 -- Bridge to the code. What connects the definitions of this crate to its code.
 pub mod AddedNodes
 pub mod AskedPieces
+pub mod AskedRules
 pub mod ByteValues
+pub mod ChoiceChains
 pub mod ChoiceLaws
 pub mod ChoiceLists
 pub mod ChoicePaths
 pub mod ChoicesMade
 pub mod ChoicesMadeSoFar
+pub mod ChooseNothing
 pub mod ExploredRules
 pub mod FaultMarks
 pub mod ListElements
@@ -17,6 +20,7 @@ pub mod OverLimit
 pub mod PackedNodes
 pub mod QuietStates
 pub mod ReachedStates
+pub mod ResolvedConditions
 pub mod ScriptTo
 pub mod SearchEnds
 pub mod Sequences

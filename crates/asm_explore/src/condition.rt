@@ -1,6 +1,6 @@
 //! The codes of conditions.
 ghost use Rattle.std.specs.Prelude.{IfOk};
-ghost use Rattle.asm_explore.specs.Conditions.{IsCondition};
+ghost use Rattle.asm_explore.specs.code.ResolvedConditions.{IsCondition};
 
 use asm_check::Checked;
 use asm_code::code::Code;

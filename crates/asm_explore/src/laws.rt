@@ -20,6 +20,7 @@ ghost use Rattle.asm_explore.specs.declared.exploration_result.ExplorationResult
 ghost use Rattle.asm_explore.specs.declared.outcomes.listed_outcome.Choice.{Choice};
 ghost use Rattle.asm_explore.specs.ExplorationResults.{IsExplorationResult};
 ghost use Rattle.asm_explore.specs.code.ListElements.{Each};
+ghost use Rattle.asm_explore.specs.declared.outcomes.outcomes_error.RuleOverLimit.{RuleOverLimit};
 ghost use Rattle.asm_explore.specs.code.ChoicesMade.{made_in};
 ghost use Rattle.asm_explore.specs.code.MainRule.{IsMainOverLimit};
 ghost use Rattle.asm_explore.specs.code.StepOutcomes.{IsOverLimitOf};
@@ -80,4 +81,11 @@ pub fn same_rule_result()
 pub fn making_laws()
     ensures { (shape : Shape) (turns : ℕ) (chosen : Path → ℕ) (P : RuleCode) (rs : List Reading) (ls : Locations) (A : State) (p : Path) →
         MakingLaws shape turns chosen P rs ls A p }
+{}
+
+/// If the code of the main rule has too many outcomes, the main rule has.
+pub fn over_limit()
+    ensures { (checked : Checked) (turns limit : ℕ) (P : RuleCode) →
+        (let s = spec_of checked.spec in resolved_rule_in s [] (main_rule s (inits s)) P) → (A : State) (crowd : RuleOverLimit) →
+        IsOverLimitOf (made_in (shape_of (spec_of checked.spec)) turns P) limit A crowd → IsMainOverLimit checked turns limit A crowd }
 {}

@@ -28,6 +28,7 @@ pub use exploration_result::{BadRun, ExplorationResult, Finding, QuietRun, Unwri
 pub use explore_all::Question;
 pub use fault::Fault;
 pub use machine::{Listed, Machine};
+pub use outcomes::choice_list::ChoiceList;
 pub use outcomes::listed_outcome::{Choice, ListedOutcome, RuleResult};
 pub use outcomes::outcomes_error::{OutcomesError, RuleOverLimit};
 pub use progress::{Progress, Unwatched, Watch};

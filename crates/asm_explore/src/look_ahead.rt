@@ -36,7 +36,7 @@ fn look_at<M: Machine>(
     requires from { IsStateOf (M.shape machine.now) from.now }
     requires one { IsCounted (count_of (M.shape machine.now)) one.now.answer }
     requires sound { IsSound (M.shape machine.now) (steps_from (M.specification machine.now) (M.turns machine.now) (state_of (M.shape machine.now) from.now)) one.now }
-    requires apart { HaveOwnPaths one.now.choices.items }
+    requires apart { HaveOwnPaths one.now.choices }
     requires nodes { Each (λ n. length n.state ≡ count_of (M.shape machine.now)) nodes.now }
     ensures more { GrowsBy (Each (IsFound (M.shape machine.now) (M.specification machine.now) (M.turns machine.now) (state_of (M.shape machine.now) from.now))) found.old found.new }
     ensures leads { IfOk result (λ so. IsTrue so → (r : Yielded) → Shows (M.shape machine.now) one.now.answer r →

@@ -96,11 +96,42 @@ pub(crate) fn hash_of(answer: &RuleResult) -> u64 {
 pub(crate) fn is_known(found: &[ListedOutcome], one: &ListedOutcome) -> bool
     ensures { IsTrue result → AnyOf (λ f. IsShownBy one.now.answer f.answer) found.now }
 {
-    for i in 0..found.len() {
-        let other = &found[i];
+    let mut at = 0;
+    for depth in 0..found.len() {
+        if at >= found.len() {
+            return false;
+        }
+        let other = &found[at];
         if other.hash == one.hash && is_same_result(&other.answer, &one.answer) {
             return true;
         }
+        at = other.below.next(one.hash, depth);
+        if at == 0 {
+            return false;
+        }
     }
     false
+}
+
+/// Lets the search come to the last outcome of the list.
+pub(crate) fn link_last(found: &mut Vec<ListedOutcome>)
+    ensures { found.new.items ≡ found.old.items }
+{
+    let len = found.len();
+    if len < 2 {
+        return;
+    }
+    let hash = found[len - 1].hash;
+    let mut at = 0;
+    for depth in 0..len {
+        if at >= found.len() {
+            return;
+        }
+        let next = found[at].below.next(hash, depth);
+        if next == 0 {
+            found[at].below.lead(hash, depth, len - 1);
+            return;
+        }
+        at = next;
+    }
 }

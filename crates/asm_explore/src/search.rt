@@ -24,7 +24,7 @@ ghost use Rattle.asm_explore.specs.code.StepOutcomes.{IsOverLimitOf, IsStep};
 
 use crate::fault::Fault;
 use crate::machine::Machine;
-use crate::outcomes::listed_outcome::{Choice, ListedOutcome, RuleResult, add_choices};
+use crate::outcomes::listed_outcome::{Choice, ListedOutcome, RuleResult};
 use crate::progress::{Progress, Watch};
 use crate::same_result::is_same_value;
 use crate::search_error::{SearchError, halted};
@@ -84,11 +84,10 @@ fn choices_of(
     number: usize,
 ) -> Result<Vec<Choice>, AllocError>
     requires { number < length outcomes.now }
-    ensures { IfOk result (λ cs. (f : ListedOutcome) → slice_get outcomes.now number ≡ Some f → cs.items ≡ f.choices.items) }
+    ensures { IfOk result (λ cs. (f : ListedOutcome) → slice_get outcomes.now number ≡ Some f → cs.items ≡ f.choices) }
 {
-    let mut choices = Vec::new(alloc);
     let one = &outcomes[number];
-    add_choices(alloc, one.choices.as_slice(), &mut choices)?;
+    let choices = one.choices.to_vec(alloc)?;
     Ok(choices)
 }
 
@@ -172,11 +171,11 @@ impl<'m, M: Machine> Search<'m, M> {
         requires here { (n : Node) → slice_get reached.old.nodes from ≡ Some n → n.state ≡ state.now }
         requires one { IsCounted (count_of (M.shape self.now.machine.now)) one.now.answer }
         requires outcome { IsOutcome (M.shape self.now.machine.now) (M.specification self.now.machine.now) (M.turns self.now.machine.now) reached.old.nodes from below one.now }
-        requires apart { HaveOwnPaths one.now.choices.items }
+        requires apart { HaveOwnPaths one.now.choices }
         ensures adds { AddsNodes (M.shape self.now.machine.now) (M.specification self.now.machine.now) (M.turns self.now.machine.now) (M.right self.now.machine.now) from below self.now.limit reached.old.nodes reached.new.nodes result }
         ensures leads { IfOk result (λ fault. IfNone fault ((n : Node) (r : Yielded) → slice_get reached.old.nodes from ≡ Some n → Shows (M.shape self.now.machine.now) one.now.answer r →
             LeadsOn r (state_at (M.shape self.now.machine.now) n) (Known (M.shape self.now.machine.now) reached.new.nodes below))) }
-        ensures wrong { IfOk result (λ fault. IfSome fault (IsBadStep (M.shape self.now.machine.now) (M.specification self.now.machine.now) (M.turns self.now.machine.now) (M.right self.now.machine.now) (M.rests self.now.machine.now) reached.old.nodes from one.now.choices.items)) }
+        ensures wrong { IfOk result (λ fault. IfSome fault (IsBadStep (M.shape self.now.machine.now) (M.specification self.now.machine.now) (M.turns self.now.machine.now) (M.right self.now.machine.now) (M.rests self.now.machine.now) reached.old.nodes from one.now.choices)) }
     {
         let updates = match &one.answer {
             RuleResult::Set(updates) => updates,
@@ -216,7 +215,7 @@ impl<'m, M: Machine> Search<'m, M> {
         ensures adds { AddsNodes (M.shape self.now.machine.now) (M.specification self.now.machine.now) (M.turns self.now.machine.now) (M.right self.now.machine.now) from below self.now.limit reached.old.nodes reached.new.nodes result }
         ensures leads { IfOk result (λ bad. IfNone bad (FollowsStep (M.shape self.now.machine.now) reached.old.nodes reached.new.nodes from below outcomes.now)) }
         ensures wrong { IfOk result (λ bad. IfSome bad (λ b. (f : ListedOutcome) × (slice_get outcomes.now b.number ≡ Some f) ×
-            IsBadStep (M.shape self.now.machine.now) (M.specification self.now.machine.now) (M.turns self.now.machine.now) (M.right self.now.machine.now) (M.rests self.now.machine.now) reached.old.nodes from f.choices.items b.fault)) }
+            IsBadStep (M.shape self.now.machine.now) (M.specification self.now.machine.now) (M.turns self.now.machine.now) (M.right self.now.machine.now) (M.rests self.now.machine.now) reached.old.nodes from f.choices b.fault)) }
     {
         for k in 0..outcomes.len() {
             let one = &outcomes[k];

@@ -9,7 +9,7 @@ ghost use Rattle.asm_code.specs.code.CodeViews.{code_of};
 ghost use Rattle.asm_code.specs.code.RuleMeaning.{IsSoundTest};
 ghost use Rattle.asm_code.specs.code.RuleViews.{rule_of};
 ghost use Rattle.asm_explore.specs.code.StepsAhead.{IsAhead};
-ghost use Rattle.asm_explore.specs.Conditions.{holds_in, IsSpecified};
+ghost use Rattle.asm_explore.specs.code.ResolvedConditions.{holds_in, IsSpecified};
 ghost use Rattle.asm_explore.specs.code.OutcomeLists.{Each};
 ghost use Rattle.asm_explore.specs.code.ChoicesMade.{made_in};
 ghost use Rattle.asm_explore.specs.code.StepOutcomes.{IsListed};

@@ -259,6 +259,14 @@ fn is_crowd(crowd: &RuleOverLimit, row: &Crowded) -> bool {
         && crowd.others == row.others
 }
 
+/// Whether too many outcomes are found as the row says.
+fn finds_crowd(finding: &Finding, row: &Crowded) -> bool {
+    match finding {
+        Finding::TooManyOutcomes { depth, crowd } => *depth == row.depth && is_crowd(crowd, row),
+        _ => false,
+    }
+}
+
 /// Whether there are too many outcomes as the row says.
 fn is_crowded(alloc: Global, row: &Crowded) -> Result<bool, Fail> {
     let text = joined(alloc, BEFORE, row.body)?;
@@ -267,10 +275,9 @@ fn is_crowded(alloc: Global, row: &Crowded) -> Result<bool, Fail> {
         ..ANY
     };
     let answered = answer_to(alloc, text.as_str(), &asked)?;
-    Ok(match &answered.finding {
-        Finding::TooManyOutcomes { depth, crowd } => *depth == row.depth && is_crowd(crowd, row),
-        _ => false,
-    })
+    let is_so = finds_crowd(&answered.finding, row);
+    drop(answered);
+    Ok(is_so)
 }
 
 #[test]

@@ -1,5 +1,6 @@
 //! Questions about texts.
 use crate::told::{Told, told_by};
+use asm_check::Checked;
 use asm_explore::explore_all::explore_all;
 use asm_explore::{ExplorationResult, Question, Unwatched};
 use asm_reader::read;
@@ -42,18 +43,25 @@ pub fn joined(alloc: Global, front: &str, rest: &str) -> Result<String, AllocErr
 /// What is before a term that is read.
 const BEFORE_TERM: &str = "CoreASM T init M rule M = skip derived condition = ";
 
-/// The term with this text.
-fn term_of(alloc: Global, term: &str) -> Result<Term, Unchecked> {
-    let Ok(text) = joined(alloc, BEFORE_TERM, term) else {
-        return Err(Unchecked);
-    };
+/// The body of a derived function.
+fn body_of(item: Item) -> Result<Term, Unchecked> {
+    match item {
+        Item::Derived { body, .. } => Ok(body),
+        other => {
+            drop(other);
+            Err(Unchecked)
+        }
+    }
+}
+
+/// The body of the function that a text declares last.
+fn last_body(alloc: Global, text: &str) -> Result<Term, Unchecked> {
     let Ok(mut spec) = read(alloc, text.as_bytes()) else {
         return Err(Unchecked);
     };
-    match spec.items.pop() {
-        Some(Item::Derived { body, .. }) => Ok(body),
-        _ => Err(Unchecked),
-    }
+    let last = spec.items.pop();
+    drop(spec);
+    body_of(last.ok_or(Unchecked)?)
 }
 
 /// The condition with this text.
@@ -61,36 +69,70 @@ fn condition_of(alloc: Global, text: &str) -> Result<Option<Term>, Unchecked> {
     if text.is_empty() {
         return Ok(None);
     }
-    let term = term_of(alloc, text)?;
+    let Ok(text) = joined(alloc, BEFORE_TERM, text) else {
+        return Err(Unchecked);
+    };
+    let term = last_body(alloc, text.as_str())?;
     Ok(Some(term))
+}
+
+/// The question that is asked so, with these two conditions.
+fn question_with(
+    alloc: Global,
+    asked: &Asked,
+    always: Option<Term>,
+    within: Option<Term>,
+) -> Result<Question, Unchecked> {
+    match condition_of(alloc, asked.when_quiet) {
+        Ok(when_quiet) => Ok(Question {
+            always,
+            within,
+            when_quiet,
+            turns: asked.turns,
+            steps: asked.steps,
+            states: asked.states,
+            outcomes: asked.outcomes,
+        }),
+        Err(refused) => {
+            drop(always);
+            drop(within);
+            Err(refused)
+        }
+    }
 }
 
 /// The question that is asked so.
 pub fn question_of(alloc: Global, asked: &Asked) -> Result<Question, Unchecked> {
     let always = condition_of(alloc, asked.always)?;
-    let within = condition_of(alloc, asked.within)?;
-    let when_quiet = condition_of(alloc, asked.when_quiet)?;
-    Ok(Question {
-        always,
-        within,
-        when_quiet,
-        turns: asked.turns,
-        steps: asked.steps,
-        states: asked.states,
-        outcomes: asked.outcomes,
-    })
+    match condition_of(alloc, asked.within) {
+        Ok(within) => question_with(alloc, asked, always, within),
+        Err(refused) => {
+            drop(always);
+            Err(refused)
+        }
+    }
+}
+
+/// The result of a question about a specification.
+fn answer_of(alloc: Global, checked: &Checked, asked: &Asked) -> Result<ExplorationResult, Fail> {
+    let question = question_of(alloc, asked)?;
+    let answered = explore_all(alloc, checked, &question, &mut Unwatched);
+    drop(question);
+    Ok(answered?)
 }
 
 /// The result of a question about a text.
 pub fn answer_to(alloc: Global, text: &str, asked: &Asked) -> Result<ExplorationResult, Fail> {
     let checked = checked_of(alloc, text.as_bytes())?;
-    let question = question_of(alloc, asked)?;
-    let answered = explore_all(alloc, &checked, &question, &mut Unwatched)?;
-    Ok(answered)
+    let answered = answer_of(alloc, &checked, asked);
+    drop(checked);
+    answered
 }
 
 /// What is told of a text.
 pub fn told_of(alloc: Global, text: &str, asked: &Asked) -> Result<Told, Fail> {
     let answered = answer_to(alloc, text, asked)?;
-    Ok(told_by(&answered))
+    let told = told_by(&answered);
+    drop(answered);
+    Ok(told)
 }

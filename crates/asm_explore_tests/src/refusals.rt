@@ -76,6 +76,20 @@ fn specification(alloc: Global, text: &str) -> Result<Checked, AllocError> {
     }
 }
 
+/// That of a specification.
+fn answer_of(
+    alloc: Global,
+    checked: &Checked,
+    asked: &Asked,
+) -> Result<Option<ExplorationResult>, AllocError> {
+    let Ok(question) = question_of(alloc, asked) else {
+        return Err(AllocError);
+    };
+    let answered = explore_all(alloc, checked, &question, &mut Unwatched);
+    drop(question);
+    Ok(answered.ok())
+}
+
 /// The result, or none if memory runs out before there is one.
 fn answer(
     alloc: Global,
@@ -83,13 +97,9 @@ fn answer(
     asked: &Asked,
 ) -> Result<Option<ExplorationResult>, AllocError> {
     let checked = specification(alloc, text)?;
-    let Ok(question) = question_of(alloc, asked) else {
-        return Err(AllocError);
-    };
-    match explore_all(alloc, &checked, &question, &mut Unwatched) {
-        Ok(answered) => Ok(Some(answered)),
-        Err(AllocError) => Ok(None),
-    }
+    let answered = answer_of(alloc, &checked, asked);
+    drop(checked);
+    answered
 }
 
 /// Whether memory ran out, and no more is said than what was looked at.
@@ -118,6 +128,7 @@ fn is_told(
         return Ok(true);
     };
     let told = told_by(&answered);
+    drop(answered);
     Ok(told == whole || is_front(told, whole, least))
 }
 
@@ -133,16 +144,23 @@ fn a_refused_exploration_is_not_crowded(rt: HostRuntime) -> Result<(), Fail> {
     Ok(())
 }
 
+/// Whether a result has the script, or is a front.
+fn is_script_or_front(answered: &ExplorationResult) -> bool {
+    let told = told_by(answered);
+    match &answered.finding {
+        Finding::BadStep(bad) => told == WRONG && bad.script.as_str() == BOTH_ONE,
+        _ => is_front(told, WRONG, 1),
+    }
+}
+
 /// Whether a run is found that goes wrong, with its script, or memory runs out.
 fn finds_its_script(alloc: Global) -> Result<bool, AllocError> {
     let Some(answered) = answer(alloc, ADDING, &SMALL)? else {
         return Ok(true);
     };
-    let told = told_by(&answered);
-    Ok(match &answered.finding {
-        Finding::BadStep(bad) => told == WRONG && bad.script.as_str() == BOTH_ONE,
-        _ => is_front(told, WRONG, 1),
-    })
+    let is_so = is_script_or_front(&answered);
+    drop(answered);
+    Ok(is_so)
 }
 
 #[test]

@@ -4,6 +4,7 @@ use crate::question::{ANY, Asked, answer_to, told_of};
 use crate::texts::exclusion::MUTEX;
 use crate::told::{Told, Verdict};
 use asm_explore::{Fault, QuietRun};
+use std::alloc::Global;
 use std::test::Fail;
 
 /// Counts by 1 or by 2 as long as the count is below 3: it comes to 3 or 4, and stays there.
@@ -152,22 +153,37 @@ fn quiet_states_are_listed(rt: HostRuntime) -> Result<(), Fail> {
     Ok(())
 }
 
-/// Whether the run is that under a script of `steps` steps.
-fn is_run(run: &Option<QuietRun>, script: &str, steps: u64) -> bool {
-    match run {
-        None => false,
-        Some(run) => run.script.as_str() == script && run.steps == steps,
+/// A text, and the run that comes to its first quiet state: its script and its steps.
+type First = (&'static str, Option<(&'static str, u64)>);
+
+static FIRST_QUIET: [First; 3] = [
+    // By 1, and then by 2.
+    (LEAPS, Some(("2 0 1\n", 2))),
+    (STILL, Some(("", 0))),
+    (MUTEX, None),
+];
+
+/// Whether a run is that under a script of so many steps, or there is none.
+fn is_run(run: &Option<QuietRun>, expected: Option<(&str, u64)>) -> bool {
+    match (run, expected) {
+        (None, None) => true,
+        (Some(run), Some((script, steps))) => run.script.as_str() == script && run.steps == steps,
+        _ => false,
     }
+}
+
+/// Whether this run comes to the first quiet state of a text.
+fn comes_to_quiet(alloc: Global, text: &str, run: Option<(&str, u64)>) -> Result<bool, Fail> {
+    let answered = answer_to(alloc, text, &ANY)?;
+    let is_so = is_run(&answered.first_quiet, run);
+    drop(answered);
+    Ok(is_so)
 }
 
 #[test]
 fn a_run_comes_to_the_first_quiet_state(rt: HostRuntime) -> Result<(), Fail> {
-    // By 1, and then by 2.
-    let leaps = answer_to(rt.alloc(), LEAPS, &ANY)?;
-    assert!(rt; is_run(&leaps.first_quiet, "2 0 1\n", 2));
-    let still = answer_to(rt.alloc(), STILL, &ANY)?;
-    assert!(rt; is_run(&still.first_quiet, "", 0));
-    let mutex = answer_to(rt.alloc(), MUTEX, &ANY)?;
-    assert!(rt; mutex.first_quiet.is_none());
+    for (text, run) in &FIRST_QUIET {
+        assert!(rt; comes_to_quiet(rt.alloc(), text, *run)?, "{text}");
+    }
     Ok(())
 }

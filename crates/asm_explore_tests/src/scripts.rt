@@ -4,7 +4,7 @@ use crate::texts::alternating::ALTERNATING_WRONG;
 use crate::texts::exclusion::MUTEX_WRONG;
 use crate::texts::stack::STACK_WRONG;
 use crate::texts::termination::TERMINATION_WRONG;
-use asm_explore::{BadRun, Finding};
+use asm_explore::{BadRun, ExplorationResult, Finding};
 use asm_limits::run_limits::{DEFAULTS, Limits};
 use asm_run::end::End;
 use asm_run::error::RunError;
@@ -59,13 +59,13 @@ static SCRIPTS: [Case; 8] = [
 /// The run that is found.
 fn found_run(alloc: Global, text: &str, asked: &Asked) -> Result<BadRun, Fail> {
     let answered = answer_to(alloc, text, asked)?;
-    match &answered.finding {
-        Finding::BadStep(bad) => Ok(BadRun {
-            script: String::from_str(alloc, bad.script.as_str())?,
-            step: bad.step,
-            fault: bad.fault,
-        }),
-        _ => Err(Fail::new("no run goes wrong")),
+    let ExplorationResult { finding, .. } = answered;
+    match finding {
+        Finding::BadStep(bad) => Ok(bad),
+        other => {
+            drop(other);
+            Err(Fail::new("no run goes wrong"))
+        }
     }
 }
 

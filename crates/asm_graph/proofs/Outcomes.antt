@@ -85,15 +85,15 @@ some_situation makes cs apart = (record { script = exactly (lines_of (cs ∷ [])
 
 module _ (shape : Shape) (specification : Specification) (turns : ℕ) (A : State) (one : ListedOutcome) (next : List Value)
     (outcome : IsOutcome shape specification turns A one) (leads : Leads shape A one next) where
-  pub between : LeadBetween specification turns A (state_of shape next) one.choices.items
+  pub between : LeadBetween specification turns A (state_of shape next) one.choices
   between = record { apart = outcome.apart; leads = λ s taken. leads.leads (steps_from specification turns A s) (outcome.sound s taken) }
 
   pub led_on : (within : State → Bool) (depth : ℕ) → within A ≡ true → IsLed specification turns within depth A → IsLed specification turns within (depth + 1) (state_of shape next)
-  led_on within depth inside led = (one.choices.items ∷ led.0, omega (arith, led.1), (A, led.2, inside, between))
+  led_on within depth inside led = (one.choices ∷ led.0, omega (arith, led.1), (A, led.2, inside, between))
 
   pub whole_next : ((back : List (List Choice)) → Each HaveOwnPaths back → MakesAll (exactly (lines_of back)) back) → IsStateOf shape next
   whole_next makes =
-      let s = some_situation makes one.choices.items outcome.apart in
+      let s = some_situation makes one.choices outcome.apart in
       leads.kept (steps_from specification turns A s.0) (outcome.sound s.0 s.1)
 
 -- the state that it leads to is in a node
@@ -110,13 +110,13 @@ module _ (shape : Shape) (specification : Specification) (turns : ℕ) (A : Stat
   outcome_at k one there = record {
     counted = each_got (λ (f : ListedOutcome). IsCounted (count_of shape) f.answer) outcomes k one step.lists.counted there;
     sound = each_got (IsSound shape (steps_from specification turns A)) outcomes k one step.lists.sound there;
-    apart = each_got (λ (f : ListedOutcome). HaveOwnPaths f.choices.items) outcomes k one step.apart there;
+    apart = each_got (λ (f : ListedOutcome). HaveOwnPaths f.choices) outcomes k one step.apart there;
   }
 
   module _ (nodes : List Node) (edges : List Edge) (follow : Pairs (IsFollowed shape nodes A) outcomes edges) where
     pub edges_are : AreEdges shape specification turns nodes A edges
     edges_are = record {
-      each = pairs_each (IsFollowed shape nodes A) (λ (f : ListedOutcome). HaveOwnPaths f.choices.items × IsSound shape (steps_from specification turns A) f) (IsEdge shape specification turns nodes A)
+      each = pairs_each (IsFollowed shape nodes A) (λ (f : ListedOutcome). HaveOwnPaths f.choices × IsSound shape (steps_from specification turns A) f) (IsEdge shape specification turns nodes A)
           (λ f e followed fine. record {
             apart = subst HaveOwnPaths (sym followed.choices) fine.0;
             goes = λ s taken. followed.goes (steps_from specification turns A s) (fine.1 s (subst (AreTaken s) followed.choices taken));
@@ -127,7 +127,7 @@ module _ (shape : Shape) (specification : Specification) (turns : ℕ) (A : Stat
           (step.lists.complete s);
     }
       where
-        both : (fs : List ListedOutcome) → Each (λ (f : ListedOutcome). HaveOwnPaths f.choices.items) fs → Each (IsSound shape (steps_from specification turns A)) fs
-            → Each (λ (f : ListedOutcome). HaveOwnPaths f.choices.items × IsSound shape (steps_from specification turns A) f) fs
+        both : (fs : List ListedOutcome) → Each (λ (f : ListedOutcome). HaveOwnPaths f.choices) fs → Each (IsSound shape (steps_from specification turns A)) fs
+            → Each (λ (f : ListedOutcome). HaveOwnPaths f.choices × IsSound shape (steps_from specification turns A) f) fs
         both [] h g = tt
         both (f ∷ fs) h g = ((h.0, g.0), both fs h.1 g.1)

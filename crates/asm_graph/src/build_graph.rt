@@ -12,7 +12,7 @@ ghost use Rattle.asm_graph.specs.declared.graph.Node.{Node};
 use crate::find_node::{find_node, hash_of};
 use crate::graph::{Edge, EdgeEnd, Graph, Node, Step};
 use crate::graph_error::GraphError;
-use crate::next_state::{copy_choices, next_state};
+use crate::next_state::next_state;
 use asm_explore::laws::script_law;
 use asm_explore::{ListedOutcome, Machine, OutcomesError};
 use asm_state::state::State;
@@ -124,7 +124,7 @@ impl<'m, M: Machine> Walk<'m, M> {
         for k in 0..outcomes.len() {
             let one = &outcomes[k];
             let to = self.follow(from, depth, one, nodes)?;
-            let choices = copy_choices(self.alloc, one.choices.as_slice())?;
+            let choices = one.choices.to_vec(self.alloc)?;
             edges.push(Edge { choices, to })?;
         }
         Ok(edges)

@@ -3,7 +3,8 @@ ghost use Rattle.std.specs.Prelude.{◌<◌, IfOk};
 ghost use Rattle.asm_check.specs.Shapes.{shape_of};
 ghost use Rattle.asm_meaning.specs.Declarations.{specification_of};
 ghost use Rattle.asm_syntax.specs.code.Views.{spec_of};
-ghost use Rattle.asm_explore.specs.Conditions.{IsSpecified, holds_in, term_holds};
+ghost use Rattle.asm_explore.specs.Conditions.{term_holds};
+ghost use Rattle.asm_explore.specs.code.ResolvedConditions.{IsSpecified, holds_in};
 ghost use Rattle.asm_explore.specs.code.MainRule.{IsMainOverLimit};
 ghost use Rattle.asm_graph.specs.Graphs.{IsGraph};
 

@@ -8,8 +8,7 @@ ghost use Rattle.asm_graph.specs.Graphs.{IsKind};
 ghost use Rattle.asm_graph.specs.code.GraphSoFar.{FailsSo, Leads};
 
 use crate::graph::StepFault;
-use asm_explore::{Choice, ListedOutcome, RuleResult};
-use asm_meaning::Path;
+use asm_explore::{ListedOutcome, RuleResult};
 use asm_state::signature::Signature;
 use asm_state::state::State;
 use asm_updates::fault::Fault;
@@ -48,35 +47,4 @@ pub(crate) fn next_state(
             Ok(Ok(next))
         }
     }
-}
-
-/// The same path again.
-fn copy_path(alloc: Global, path: &Path) -> Result<Path, AllocError>
-    ensures { IfOk result (λ p. p ≡ path.now) }
-{
-    let numbers = path.as_slice().to_vec(alloc)?;
-    Ok(Path::new(numbers))
-}
-
-/// The same choice again.
-fn copy_choice(alloc: Global, choice: &Choice) -> Result<Choice, AllocError>
-    ensures { IfOk result (λ c. c ≡ choice.now) }
-{
-    let path = copy_path(alloc, &choice.path)?;
-    Ok(Choice {
-        path,
-        number: choice.number,
-    })
-}
-
-/// The same choices again.
-pub(crate) fn copy_choices(alloc: Global, choices: &[Choice]) -> Result<Vec<Choice>, AllocError>
-    ensures { IfOk result (λ copied. copied.items ≡ choices.now) }
-{
-    let mut copied = Vec::new(alloc);
-    for i in 0..choices.len() {
-        let choice = copy_choice(alloc, &choices[i])?;
-        copied.push(choice)?;
-    }
-    Ok(copied)
 }

@@ -16,9 +16,10 @@ use Rattle.asm_syntax.specs.Tree.{Name, Term, Constant, Named, Chain, Exists, Ev
 use Rattle.asm_reader.specs.ScriptLines.{Script, no_lines}
 use Rattle.asm_meaning.specs.Program.{Program, Universe, Controlled, Static, Derived, NamedRule, nothing_bound, with_value}
 use Rattle.asm_meaning.specs.Value.{is_true, value, values, reading, reading_within, readings_of}
-use Rattle.asm_meaning.specs.Yields.{Path, Gives, Exhausted, beside}
+use Rattle.asm_meaning.specs.Yields.{Path, at, Gives, Exhausted, beside}
 use Rattle.asm_meaning.specs.Does.{Outcome, nothing, following, turn_and, meaning, does_within, does}
 use Rattle.asm_meaning.specs.Run.{AtLimit, run}
+use Rattle.asm_meaning.specs.Story.{Story, Silent, Assigns, Chooses, Instance, Beside, Then, Exhausts, telling, tells_within, tells}
 
 abbrev number : ℤ → Value
 number = number_or_undef
@@ -315,6 +316,75 @@ located_in_the_call =
     ∙ ap (λ w. following (one at_x (number (pos 2))) 0 (following (one at_f w) 0 nothing))
     (fire_laws.named start (one at_x (number (pos 2))) at_x (number (pos 2)) (one_is_consistent 1 [] (number (pos 2)))
     ((member_laws.of_one at_x at_x (number (pos 2)) (number (pos 2))).1 (refl, refl)))
+
+-- ---- stories
+
+abbrev story_by : Script → Path → Rule → Story
+story_by script p R = tells sample 1 script 1 start nothing_bound p R
+
+parts_in_their_order : story_by no_lines [] (Par (two_rules (Assign (codes "x") no_terms (name (codes "y"))) (Assign (codes "y") no_terms (name (codes "x")))))
+    ≡ Beside (Assigns (0 ∷ []) at_x (number (pos 2))) (Beside (Assigns (1 ∷ []) at_y (number (pos 1))) Silent)
+unfolding tells tells_within telling value values reading reading_within readings_of number_with
+parts_in_their_order = refl
+
+-- a choice of nothing is a choice
+an_idle_choice : story_by (one_line []) [] (Choose (codes "k") (codes "Idx") None Skip Skip) ≡ Chooses [] 1 three Silent
+unfolding tells tells_within telling value values reading reading_within readings_of number_with
+an_idle_choice = refl
+
+the_choice_of_a_part : story_by (one_line (0 ∷ 1 ∷ [])) (0 ∷ []) (Par (two_rules Skip some_number))
+    ≡ Beside Silent (Beside (Chooses (0 ∷ 1 ∷ []) 1 three (Assigns (0 ∷ 1 ∷ 0 ∷ []) at_x (number (pos 1)))) Silent)
+unfolding tells tells_within telling value values reading reading_within readings_of number_with
+the_choice_of_a_part = refl
+
+-- an element for which the condition doesn't hold isn't told, and the others keep their numbers
+elements_by_number : story_by no_lines [] (Forall (codes "i") (codes "Idx") (Some (greater (name (codes "i")) (constant (pos 1)))) (Assign (codes "x") no_terms (name (codes "i"))))
+    ≡ Beside (Instance (Assigns (2 ∷ []) at_x (number (pos 2)))) Silent
+unfolding tells tells_within telling value values reading reading_within readings_of number_with
+elements_by_number = refl
+
+-- an update of a stray location is one, and one of no location is none
+stray_is_told : story_by no_lines [] (Assign (codes "f") (of_one (constant (pos 9))) (constant (pos 1))) ≡ Assigns [] (Stray 0) (number (pos 1))
+unfolding tells tells_within telling value values reading reading_within readings_of number_with
+stray_is_told = refl
+
+nowhere_is_silent : story_by no_lines [] (Assign answer no_terms (constant (pos 1))) ≡ Silent
+unfolding tells tells_within telling value values reading reading_within readings_of number_with
+nowhere_is_silent = refl
+
+the_body_is_below_the_call : story_by no_lines [] (answers (codes "x") no_terms (codes "raise") (of_one (constant (pos 3)))) ≡ Assigns (0 ∷ []) at_x (number (pos 4))
+unfolding tells tells_within telling value values reading reading_within readings_of number_with
+the_body_is_below_the_call = refl
+
+in_their_order : story_by no_lines [] (Seq (two_rules (Assign (codes "x") no_terms (constant (pos 1))) (Assign (codes "x") no_terms (constant (pos 2)))))
+    ≡ Then (Assigns (0 ∷ []) at_x (number (pos 1))) (Then (Assigns (1 ∷ []) at_x (number (pos 2))) Silent)
+unfolding tells tells_within telling value values reading reading_within readings_of number_with
+in_their_order =
+    let s : Story = Assigns (0 ∷ []) at_x (number (pos 1)) in
+    let t : Story = Assigns (1 ∷ []) at_x (number (pos 2)) in
+    (λ i. cond (passes 1 [] (number (pos 1)) i) (Then s (cond (passes 1 [] (number (pos 2)) i) (Then t Silent) t)) s)
+
+-- nothing comes after a part with a fault
+stray_fails : (f : ℕ) (v : Value) → is_consistent (one (Stray f) v) ≡ false
+stray_fails f v =
+    elim (is_consistent (one (Stray f) v)) as (λ b. is_consistent (one (Stray f) v) ≡ b → b ≡ false) [
+      | true ↦ λ e. absurd (((test_laws.consistency (one (Stray f) v)).0 e).no_stray f v ((member_laws.of_one (Stray f) (Stray f) v v).1 (refl, refl)))
+      | false ↦ λ e. refl
+    ] refl
+
+nothing_after_a_fault : story_by no_lines [] (Seq (two_rules (Assign (codes "f") (of_one (constant (pos 9))) (constant (pos 1))) some_number)) ≡ Assigns (0 ∷ []) (Stray 0) (number (pos 1))
+unfolding tells tells_within telling value values reading reading_within readings_of number_with
+nothing_after_a_fault =
+    let s : Story = Assigns (0 ∷ []) (Stray 0) (number (pos 1)) in
+    ap (λ b. cond b (Then s (cond (is_consistent (one at_x (number (pos 0)))) (Then (Chooses (1 ∷ []) 0 three (Assigns (1 ∷ 0 ∷ []) at_x (number (pos 0)))) Silent) (Chooses (1 ∷ []) 0 three (Assigns (1 ∷ 0 ∷ []) at_x (number (pos 0)))))) s)
+    (stray_fails 0 (number (pos 1)))
+
+-- with a limit of one, the turn that has a set is the last one
+one_turn_is_told : (p : Path) → story_by no_lines p repeated ≡ Then (Assigns (at p 0) at_x (number (pos 1))) (Exhausts p)
+unfolding tells tells_within telling value values reading reading_within readings_of number_with
+one_turn_is_told p =
+    let s : Story = Assigns (at p 0) at_x (number (pos 1)) in
+    (λ i. cond (has_one (number (pos 1)) i || not (passes 1 [] (number (pos 1)) i)) s (Then s (Exhausts p)))
 
 -- ---- the least of paths
 

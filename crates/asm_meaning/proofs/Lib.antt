@@ -1,5 +1,6 @@
 pub mod CallsAndUses
 pub mod Cases
+pub mod Stories
 pub mod TermCases
 pub mod Weights
 pub mod Run

@@ -2,10 +2,12 @@ pub mod Program
 pub mod Value
 pub mod Yields
 pub mod Does
+pub mod Story
 pub mod Scripts
 pub mod Ranks
 pub mod LawOfChoice
 pub mod Cases
+pub mod StoryLaws
 pub mod TermCases
 pub mod Run
 pub mod Declarations

@@ -37,7 +37,8 @@ impl Forming {
         ensures path { IfOk result (λ forming. forming.path.items ≡ path.now) }
     {
         let mut forming = Forming::new(alloc, signature);
-        forming.path = path.to_vec(alloc)?;
+        forming.path.reserve(path.len().saturating_add(8))?;
+        forming.path.extend_from_slice(path)?;
         Ok(forming)
     }
 

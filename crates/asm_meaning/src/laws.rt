@@ -51,6 +51,8 @@ ghost use Rattle.asm_meaning.specs.Run.{ScriptedRuns, FreeRuns};
 ghost use Rattle.asm_meaning.specs.Scripts.{UnrepeatedScript};
 ghost use Rattle.asm_meaning.specs.SpecificationLaw.{SpecificationsAreRanked, SpecificationRunsAreFree, SpecificationRunsHaveScripts};
 ghost use Rattle.asm_meaning.specs.code.BesideLaws.{BesideLaws, SplitLaws};
+ghost use Rattle.asm_meaning.specs.Story.{Silent, tells};
+ghost use Rattle.asm_meaning.specs.StoryLaws.{AreToldOutcomes, StoryLaws, ToldByCases};
 ghost use Rattle.asm_meaning.specs.Taken.{taken, found_candidate};
 ghost use Rattle.asm_meaning.specs.Targets.{location_of};
 ghost use Rattle.asm_meaning.specs.TermCases.{ValuedByCases};
@@ -414,4 +416,25 @@ pub fn tree_weights()
         declared_with_number (rules_of (spec_of checked.spec)) r ≡ Some (names.NamedRule (map name_of xs) (rule_of R)) →
         rules_in (in_body checked) (plain_rule (rule_of R)) < rules_in (in_body checked) (Call to f ts) }
     ensures rule { (checked : Checked) (R : tree.Rule) → rules_in (in_body checked) R ≡ rule_weight (program checked) R }
+{}
+
+/// The story of a rule yields what the rule does.
+pub fn told_outcomes()
+    ensures { AreToldOutcomes }
+{}
+
+/// What is told of parts, elements, candidates and turns yields what they do.
+pub fn story_laws()
+    ensures { StoryLaws }
+{}
+
+/// The story of a rule is told by the stories of its parts, if ranks fall with each call.
+pub fn told_by_cases()
+    ensures { ToldByCases }
+{}
+
+/// A call of a name that stands for no rule tells nothing.
+pub fn untold_names()
+    ensures { (spec : Spec) (turns : ℕ) (script : Script) (step : ℕ) (A : State) (e : Environment) (p : Path) (to : Option (Name × Terms)) (f : Name) (ts : Terms) (it : Option NameNumber) →
+        it ≡ named spec f → rule_number it ≡ None → Silent ≡ tells (program_of spec) turns script step A e p (Call to f ts) }
 {}

@@ -1,6 +1,6 @@
 //! Runs that go wrong.
 ghost use Rattle.std.specs.Prelude.{◌≤◌, ℕ, IfOk, IfSome};
-ghost use Rattle.asm_explore.specs.Conditions.{IsSpecified};
+ghost use Rattle.asm_explore.specs.code.ResolvedConditions.{IsSpecified};
 ghost use Rattle.asm_random.specs.code.ShorterRuns.{IsWrongFor};
 
 use crate::bad_end::{BadEnd, wrong_under};

@@ -3,7 +3,7 @@ ghost use Rattle.std.specs.Prelude.{IfOk, IfSome};
 ghost use Rattle.asm_syntax.specs.code.Views.{spec_of};
 ghost use Rattle.asm_check.specs.Shapes.{shape_of};
 ghost use Rattle.asm_meaning.specs.Declarations.{specification_of};
-ghost use Rattle.asm_explore.specs.Conditions.{IsSpecified, holds_in};
+ghost use Rattle.asm_explore.specs.code.ResolvedConditions.{IsSpecified, holds_in};
 ghost use Rattle.asm_random.specs.BadDrafts.{IsWrongUnder};
 
 use crate::stepping::step_from;

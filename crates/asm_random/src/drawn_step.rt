@@ -3,7 +3,7 @@ ghost use Rattle.std.specs.Prelude.{◌≡◌, length};
 ghost use Rattle.asm_state.specs.Signature.{count_of};
 ghost use Rattle.asm_syntax.specs.code.Views.{spec_of};
 ghost use Rattle.asm_check.specs.Shapes.{shape_of};
-ghost use Rattle.asm_explore.specs.Conditions.{IsSpecified};
+ghost use Rattle.asm_explore.specs.code.ResolvedConditions.{IsSpecified};
 
 use crate::asked_in::asked_in;
 use crate::draft::{Draft, Numbers};

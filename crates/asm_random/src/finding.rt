@@ -5,7 +5,7 @@ ghost use Rattle.asm_reader.specs.ScriptText.{IsScript};
 ghost use Rattle.asm_syntax.specs.code.Views.{spec_of};
 ghost use Rattle.asm_check.specs.Shapes.{shape_of};
 ghost use Rattle.asm_meaning.specs.Declarations.{specification_of};
-ghost use Rattle.asm_explore.specs.Conditions.{IsSpecified, holds_in};
+ghost use Rattle.asm_explore.specs.code.ResolvedConditions.{IsSpecified, holds_in};
 ghost use Rattle.asm_random.specs.RandomResults.{Claims, IsBadScript};
 ghost use Rattle.asm_random.specs.code.ShorterRuns.{IsWrongFor};
 

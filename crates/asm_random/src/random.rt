@@ -5,7 +5,8 @@ ghost use Rattle.asm_check.specs.Faults.{inits};
 ghost use Rattle.asm_check.specs.Shapes.{shape_of};
 ghost use Rattle.asm_code.specs.code.RuleViews.{rule_of};
 ghost use Rattle.asm_meaning.specs.Declarations.{main_rule, specification_of};
-ghost use Rattle.asm_explore.specs.Conditions.{IsSpecified, holds_in, term_holds};
+ghost use Rattle.asm_explore.specs.Conditions.{term_holds};
+ghost use Rattle.asm_explore.specs.code.ResolvedConditions.{IsSpecified, holds_in};
 ghost use Rattle.asm_random.specs.RandomResults.{Claims};
 ghost use Rattle.asm_resolve.specs.code.RuleScopes.{resolved_rule_in};
 

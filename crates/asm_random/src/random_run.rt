@@ -1,6 +1,6 @@
 //! A random run.
 ghost use Rattle.std.specs.Prelude.{◌≡◌, length};
-ghost use Rattle.asm_explore.specs.Conditions.{IsSpecified};
+ghost use Rattle.asm_explore.specs.code.ResolvedConditions.{IsSpecified};
 
 use crate::draft::Draft;
 use crate::drawn_step::draw_step;

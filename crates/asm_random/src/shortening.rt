@@ -1,6 +1,6 @@
 //! Runs that go wrong, made shorter.
 ghost use Rattle.std.specs.Prelude.{OnOk};
-ghost use Rattle.asm_explore.specs.Conditions.{IsSpecified};
+ghost use Rattle.asm_explore.specs.code.ResolvedConditions.{IsSpecified};
 ghost use Rattle.asm_random.specs.code.ShorterRuns.{StaysWrong};
 
 use crate::bad_draft::{BadDraft, wrong_run};

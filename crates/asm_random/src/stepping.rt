@@ -10,7 +10,7 @@ ghost use Rattle.asm_meaning.specs.code.FormedOutcomes.{Follows, IsFormed};
 ghost use Rattle.asm_meaning.specs.Program.{nothing_bound};
 ghost use Rattle.asm_meaning.specs.code.TermValues.{shown};
 ghost use Rattle.asm_eval.specs.code.Evaluation.{HasLocations, evaluation_shape, evaluation_state};
-ghost use Rattle.asm_explore.specs.Conditions.{IsSpecified, holds_in};
+ghost use Rattle.asm_explore.specs.code.ResolvedConditions.{IsSpecified, holds_in};
 ghost use Rattle.asm_random.specs.code.Replay.{MakesStep};
 
 use asm_eval::evaluation::Evaluation;

@@ -16,3 +16,4 @@ pub mod ResolvingLaws
 pub mod RuleResolving
 pub mod RulePasses
 pub mod MainRule
+pub mod OtherStories

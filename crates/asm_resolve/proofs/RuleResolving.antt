@@ -26,27 +26,28 @@ use Rattle.asm_check.specs.Faults.{IsWellFormed}
 use Rattle.asm_check.specs.Ranks.{rule_rank}
 use Rattle.asm_check.specs.Shapes.{shape_of}
 use Rattle.asm_reader.specs.ScriptLines.{Script, pick}
-use Rattle.asm_meaning.specs.Cases.{ScriptedCases, runs, all_run}
 use Rattle.asm_meaning.specs.Declarations.{program_of, rule_number, universe_number}
-use Rattle.asm_meaning.specs.Does.{Outcome, Meaning, both, parts, in_order, part_and, turn_and, turns_of, each, one_of}
 use Rattle.asm_meaning.specs.Program.{Program, Declared, Controlled, NamedRule, declared, is_name, Environment, nothing_bound, with_value, with_term, bind_terms, Binding, ToValue, ToTerm, ToLocation, bound_to, located}
 use Rattle.asm_meaning.specs.code.MeantTrees.{meant, meant_branch, meant_rules, meant_target, meant_term, meant_terms}
 use Rattle.asm_meaning.specs.code.TermValues.{condition}
 use Rattle.asm_syntax.specs.code.ViewCases.{rule_of-Skip, rule_of-Assign, rule_of-Call, rule_of-Par, rule_of-Seq, rule_of-Let, rule_of-Forall, rule_of-Iterate, rule_of-While, rule_of-SetResult}
 use Rattle.asm_syntax.specs.declared.rule.Target.{Target}
 use Rattle.asm_syntax.specs.declared.name.Name.{Name as NameHere}
-use Rattle.asm_meaning.specs.Targets.{location, bound_location, location_of, update, answering}
+use Rattle.asm_meaning.specs.Story.{Story, Telling, Beside, outcome_of, target_tells, part_then, turn_then, parts_tell, order_tells, each_tells, one_tells, turns_tell}
+use Rattle.asm_meaning.specs.StoryLaws.{ToldCases, told, all_told}
+use Rattle.asm_meaning.specs.Targets.{location, bound_location, location_of, answering}
 use Rattle.asm_meaning.specs.Value.{Reading, is_true, holds, universe, value, values}
-use Rattle.asm_meaning.specs.Yields.{Path, Gives, at}
-use Rattle.asm_meaning.proofs.CalledNames.{called_names}
-use Rattle.asm_meaning.proofs.Cases.{scripted_by_cases}
+use Rattle.asm_meaning.specs.Yields.{Path, at}
+use Rattle.asm_meaning.proofs.CalledNames.{untold_names}
+use Rattle.asm_meaning.proofs.Stories.{told_by_cases}
 use Rattle.asm_meaning.proofs.RanksInPrograms.{declared_ranks-rules as rules_ranked, declared_ranks-rule_low as rule_rank_low}
 use Rattle.asm_meaning.proofs.MeantDeclarations.{universe_names-some as universe_is}
 use Rattle.std.proofs.lemmas.Option.{slice_get-get_or}
 use Rattle.asm_code.specs.code.CodeTree.{Code, Codes, no_codes, code_then}
 use Rattle.asm_code.specs.code.CodeTree as term_codes
 use Rattle.asm_code.specs.code.Readings.{always, reading, universe_at}
-use Rattle.asm_code.specs.code.RuleMeaning.{Locations, meaning, meanings, passes, optional_target_location, result_readings, result_locations, named_readings, AreSoundRules, IsSoundTest, IsSoundOptionalTarget}
+use Rattle.asm_code.specs.code.RuleMeaning.{Locations, passes, optional_target_location, result_readings, result_locations, named_readings, AreSoundRules, IsSoundTest, IsSoundOptionalTarget}
+use Rattle.asm_code.specs.code.RuleStories.{telling, tellings}
 use Rattle.asm_code.specs.code.RuleTree as codes
 use Rattle.asm_code.specs.code.RuleTree.{Place, RuleCode, RuleCodes}
 use Rattle.asm_code.specs.code.RuleViews as code_view
@@ -71,68 +72,68 @@ module _ (spec : Spec) (good : IsWellFormed spec) where
   abbrev shape : Shape
   shape = shape_of spec
 
-  cases_of : (turns : ℕ) (script : Script) (step : ℕ) → ScriptedCases program turns script step (rule_rank spec)
-  cases_of turns script step = scripted_by_cases program (rule_rank spec) turns script step (rules_ranked spec good)
+  cases_of : (turns : ℕ) (script : Script) (step : ℕ) → ToldCases program turns script step (rule_rank spec)
+  cases_of turns script step = told_by_cases program (rule_rank spec) turns script step (rules_ranked spec good)
 
   pub skip_resolved : (slots : List Slot) → IsResolvedRule program shape slots tree.Skip codes.Skip
-  unfolding meaning
-  skip_resolved slots = record { sound = tt; means = λ turns script step e rs ls A p stands. sym ((cases_of turns script step).of_skip A e p) }
+  unfolding telling
+  skip_resolved slots = record { sound = tt; tells = λ turns script step e rs ls A p stands. sym ((cases_of turns script step).of_skip A e p) }
 
   pub if_resolved : (slots : List Slot) (t : Term) (c : Code) → IsResolved program shape (names_in slots) t c → (P Q : Rule) (b d : RuleCode) → IsResolvedRule program shape slots P b → IsResolvedRule program shape slots Q d
       → IsResolvedRule program shape slots (tree.If t P Q) (codes.If c b d)
-  unfolding meaning
+  unfolding telling
   if_resolved slots t c test P Q b d first other = record {
     sound = (test.sound, first.sound, other.sound);
-    means = λ turns script step e rs ls A p stands.
-        (λ i. cond (is_true (test.means e rs A stands.values i)) (first.means turns script step e rs ls A (at p 0) stands i) (other.means turns script step e rs ls A (at p 1) stands i))
+    tells = λ turns script step e rs ls A p stands.
+        (λ i. cond (is_true (test.means e rs A stands.values i)) (first.tells turns script step e rs ls A (at p 0) stands i) (other.tells turns script step e rs ls A (at p 1) stands i))
         ∙ sym ((cases_of turns script step).of_if t P Q A e p);
   }
 
   pub let_resolved : (slots : List Slot) (x : Name) (t : Term) (c : Code) → IsResolved program shape (names_in slots) t c → (P : Rule) (b : RuleCode) → IsResolvedRule program shape (value_slot x ∷ slots) P b
       → IsResolvedRule program shape slots (tree.Let x t P) (codes.Let c b)
-  unfolding meaning
+  unfolding telling
   let_resolved slots x t c term P b body = record {
     sound = (term.sound, body.sound);
-    means = λ turns script step e rs ls A p stands.
-        ap (λ v. meaning shape turns (pick script step) b (always v ∷ rs) (None ∷ ls) A (at p 0)) (term.means e rs A stands.values)
-        ∙ body.means turns script step (with_value x (value program A e t) e) (always (value program A e t) ∷ rs) (None ∷ ls) A (at p 0) (stands_value program slots e rs ls stands x (value program A e t))
+    tells = λ turns script step e rs ls A p stands.
+        ap (λ v. telling shape turns (pick script step) b (always v ∷ rs) (None ∷ ls) A (at p 0)) (term.means e rs A stands.values)
+        ∙ body.tells turns script step (with_value x (value program A e t) e) (always (value program A e t) ∷ rs) (None ∷ ls) A (at p 0) (stands_value program slots e rs ls stands x (value program A e t))
         ∙ sym ((cases_of turns script step).of_let x t P A e p);
   }
 
   -- ---- rules beside and after each other
 
   module _ (turns : ℕ) (script : Script) (step : ℕ) (e : Environment) (rs : List Reading) (ls : Locations) where
-    abbrev runs_of : Rule → Meaning
-    runs_of = runs program turns script step
+    abbrev told_of : Rule → Telling
+    told_of = told program turns script step
 
-    abbrev means_of : RuleCode → Meaning
-    means_of c A e p = meaning shape turns (pick script step) c rs ls A p
+    abbrev tells_of : RuleCode → Telling
+    tells_of c A e p = telling shape turns (pick script step) c rs ls A p
 
-    parts_mean : (slots : List Slot) (Ps : Rules) (cs : RuleCodes) → AreResolvedRules program shape slots Ps cs → (k : ℕ) (A : State) (p : Path)
-        → PositionsStand program slots e rs ls → parts (meanings shape turns (pick script step) cs rs ls) k A nothing_bound p ≡ parts (all_run program turns script step Ps) k A e p
-    unfolding meanings
-    parts_mean slots tree.no_rules codes.no_rules are k A p stands = refl
-    parts_mean slots (tree.rule_then P Ps) (codes.rule_then c cs) are k A p stands =
-        λ i. both (are.0.means turns script step e rs ls A (at p k) stands i) (parts_mean slots Ps cs are.1 (suc k) A p stands i)
-    parts_mean slots tree.no_rules (codes.rule_then c cs) are k A p stands = absurd are
-    parts_mean slots (tree.rule_then P Ps) codes.no_rules are k A p stands = absurd are
+    parts_told : (slots : List Slot) (Ps : Rules) (cs : RuleCodes) → AreResolvedRules program shape slots Ps cs → (k : ℕ) (A : State) (p : Path)
+        → PositionsStand program slots e rs ls → parts_tell (tellings shape turns (pick script step) cs rs ls) k A nothing_bound p ≡ parts_tell (all_told program turns script step Ps) k A e p
+    unfolding telling
+    parts_told slots tree.no_rules codes.no_rules are k A p stands = refl
+    parts_told slots (tree.rule_then P Ps) (codes.rule_then c cs) are k A p stands =
+        λ i. Beside (are.0.tells turns script step e rs ls A (at p k) stands i) (parts_told slots Ps cs are.1 (suc k) A p stands i)
+    parts_told slots tree.no_rules (codes.rule_then c cs) are k A p stands = absurd are
+    parts_told slots (tree.rule_then P Ps) codes.no_rules are k A p stands = absurd are
 
-    in_order_mean : (slots : List Slot) (Ps : Rules) (cs : RuleCodes) → AreResolvedRules program shape slots Ps cs → (k : ℕ) (A : State) (p : Path)
-        → PositionsStand program slots e rs ls → in_order (meanings shape turns (pick script step) cs rs ls) k A nothing_bound p ≡ in_order (all_run program turns script step Ps) k A e p
-    unfolding meanings
-    in_order_mean slots tree.no_rules codes.no_rules are k A p stands = refl
-    in_order_mean slots (tree.rule_then P Ps) (codes.rule_then c cs) are k A p stands =
-        λ i. let o : Outcome = are.0.means turns script step e rs ls A (at p k) stands i in
-        part_and o.result o.instances (λ U. in_order_mean slots Ps cs are.1 (suc k) (fire A U) p stands i)
-    in_order_mean slots tree.no_rules (codes.rule_then c cs) are k A p stands = absurd are
-    in_order_mean slots (tree.rule_then P Ps) codes.no_rules are k A p stands = absurd are
+    in_order_told : (slots : List Slot) (Ps : Rules) (cs : RuleCodes) → AreResolvedRules program shape slots Ps cs → (k : ℕ) (A : State) (p : Path)
+        → PositionsStand program slots e rs ls → order_tells (tellings shape turns (pick script step) cs rs ls) k A nothing_bound p ≡ order_tells (all_told program turns script step Ps) k A e p
+    unfolding telling
+    in_order_told slots tree.no_rules codes.no_rules are k A p stands = refl
+    in_order_told slots (tree.rule_then P Ps) (codes.rule_then c cs) are k A p stands =
+        λ i. let s : Story = are.0.tells turns script step e rs ls A (at p k) stands i in
+        part_then (outcome_of s).result s (λ U. in_order_told slots Ps cs are.1 (suc k) (fire A U) p stands i)
+    in_order_told slots tree.no_rules (codes.rule_then c cs) are k A p stands = absurd are
+    in_order_told slots (tree.rule_then P Ps) codes.no_rules are k A p stands = absurd are
 
-    turns_mean : (slots : List Slot) (P : Rule) (c : RuleCode) → IsResolvedRule program shape slots P c → (left t : ℕ) (A : State) (p : Path) → PositionsStand program slots e rs ls
-        → turns_of (means_of c) left t A nothing_bound p ≡ turns_of (runs_of P) left t A e p
-    turns_mean slots P c it zero t A p stands = refl
-    turns_mean slots P c it (suc left) t A p stands =
-        λ i. let o : Outcome = it.means turns script step e rs ls A (at p t) stands i in
-        turn_and o.result o.instances (λ U. turns_mean slots P c it left (suc t) (fire A U) p stands i)
+    turns_told : (slots : List Slot) (P : Rule) (c : RuleCode) → IsResolvedRule program shape slots P c → (left t : ℕ) (A : State) (p : Path) → PositionsStand program slots e rs ls
+        → turns_tell (tells_of c) left t A nothing_bound p ≡ turns_tell (told_of P) left t A e p
+    turns_told slots P c it zero t A p stands = refl
+    turns_told slots P c it (suc left) t A p stands =
+        λ i. let s : Story = it.tells turns script step e rs ls A (at p t) stands i in
+        turn_then (outcome_of s).result s (λ U. turns_told slots P c it left (suc t) (fire A U) p stands i)
 
   parts_sound : (slots : List Slot) (Ps : Rules) (cs : RuleCodes) → AreResolvedRules program shape slots Ps cs → AreSoundRules shape cs
   parts_sound slots tree.no_rules codes.no_rules are = tt
@@ -141,24 +142,24 @@ module _ (spec : Spec) (good : IsWellFormed spec) where
   parts_sound slots (tree.rule_then P Ps) codes.no_rules are = absurd are
 
   pub par_resolved : (slots : List Slot) (Ps : Rules) (cs : RuleCodes) → AreResolvedRules program shape slots Ps cs → IsResolvedRule program shape slots (tree.Par Ps) (codes.Par cs)
-  unfolding meaning
+  unfolding telling
   par_resolved slots Ps cs are = record {
     sound = parts_sound slots Ps cs are;
-    means = λ turns script step e rs ls A p stands. parts_mean turns script step e rs ls slots Ps cs are 0 A p stands ∙ sym ((cases_of turns script step).of_par Ps A e p);
+    tells = λ turns script step e rs ls A p stands. parts_told turns script step e rs ls slots Ps cs are 0 A p stands ∙ sym ((cases_of turns script step).of_par Ps A e p);
   }
 
   pub seq_resolved : (slots : List Slot) (Ps : Rules) (cs : RuleCodes) → AreResolvedRules program shape slots Ps cs → IsResolvedRule program shape slots (tree.Seq Ps) (codes.Seq cs)
-  unfolding meaning
+  unfolding telling
   seq_resolved slots Ps cs are = record {
     sound = parts_sound slots Ps cs are;
-    means = λ turns script step e rs ls A p stands. in_order_mean turns script step e rs ls slots Ps cs are 0 A p stands ∙ sym ((cases_of turns script step).of_seq Ps A e p);
+    tells = λ turns script step e rs ls A p stands. in_order_told turns script step e rs ls slots Ps cs are 0 A p stands ∙ sym ((cases_of turns script step).of_seq Ps A e p);
   }
 
   pub iterate_resolved : (slots : List Slot) (P : Rule) (c : RuleCode) → IsResolvedRule program shape slots P c → IsResolvedRule program shape slots (tree.Iterate P) (codes.Iterate c)
-  unfolding meaning
+  unfolding telling
   iterate_resolved slots P c it = record {
     sound = it.sound;
-    means = λ turns script step e rs ls A p stands. turns_mean turns script step e rs ls slots P c it turns 0 A p stands ∙ sym ((cases_of turns script step).of_iterate P A e p);
+    tells = λ turns script step e rs ls A p stands. turns_told turns script step e rs ls slots P c it turns 0 A p stands ∙ sym ((cases_of turns script step).of_iterate P A e p);
   }
 
   -- ---- binders
@@ -179,47 +180,47 @@ module _ (spec : Spec) (good : IsWellFormed spec) where
   pub forall_resolved : (slots : List Slot) (x u : Name) (n : ℕ) → universe_number (named spec u) ≡ Some n → n < length shape.universes
       → (t : Option Term) (c : Option Code) → IsResolvedTest program shape (value_slot x ∷ slots) t c → (P : Rule) (b : RuleCode) → IsResolvedRule program shape (value_slot x ∷ slots) P b
       → IsResolvedRule program shape slots (tree.Forall x u t P) (codes.Forall n c b)
-  unfolding meaning
+  unfolding telling
   forall_resolved slots x u n number low t c test P b body = record {
     sound = (low, test_sound (value_slot x ∷ slots) t c test, body.sound);
-    means = λ turns script step e rs ls A p stands.
-        (λ i. each (λ v k. body.means turns script step (with_value x v e) (always v ∷ rs) (None ∷ ls) A (at p k) (stands_value program slots e rs ls stands x v) i)
+    tells = λ turns script step e rs ls A p stands.
+        (λ i. each_tells (λ v k. body.tells turns script step (with_value x v e) (always v ∷ rs) (None ∷ ls) A (at p k) (stands_value program slots e rs ls stands x v) i)
         (λ v. test_means (value_slot x ∷ slots) t c test (with_value x v e) (always v ∷ rs) A (stands_value program slots e rs ls stands x v).values i) 0 (universe_at shape n))
-        ∙ ap (each (λ v k. runs program turns script step P A (with_value x v e) (at p k)) (λ v. holds program A (with_value x v e) t) 0) (universe_at_is spec u n number low)
+        ∙ ap (each_tells (λ v k. told program turns script step P A (with_value x v e) (at p k)) (λ v. holds program A (with_value x v e) t) 0) (universe_at_is spec u n number low)
         ∙ sym ((cases_of turns script step).of_forall x u t P A e p);
   }
 
   pub choose_resolved : (slots : List Slot) (x u : Name) (n : ℕ) → universe_number (named spec u) ≡ Some n → n < length shape.universes
       → (t : Option Term) (c : Option Code) → IsResolvedTest program shape (value_slot x ∷ slots) t c → (P Q : Rule) (b d : RuleCode) → IsResolvedRule program shape (value_slot x ∷ slots) P b → IsResolvedRule program shape slots Q d
       → IsResolvedRule program shape slots (tree.Choose x u t P Q) (codes.Choose n c b d)
-  unfolding meaning
+  unfolding telling
   choose_resolved slots x u n number low t c test P Q b d body other = record {
     sound = (low, test_sound (value_slot x ∷ slots) t c test, body.sound, other.sound);
-    means = λ turns script step e rs ls A p stands.
-        (λ i. one_of (pick script step p) (filter (λ v. test_means (value_slot x ∷ slots) t c test (with_value x v e) (always v ∷ rs) A (stands_value program slots e rs ls stands x v).values i) (universe_at shape n))
-        (λ v. body.means turns script step (with_value x v e) (always v ∷ rs) (None ∷ ls) A (at p 0) (stands_value program slots e rs ls stands x v) i)
-        (other.means turns script step e rs ls A (at p 1) stands i))
-        ∙ ap (λ us. one_of (pick script step p) (filter (λ v. holds program A (with_value x v e) t) us) (λ v. runs program turns script step P A (with_value x v e) (at p 0)) (runs program turns script step Q A e (at p 1)))
+    tells = λ turns script step e rs ls A p stands.
+        (λ i. one_tells p (pick script step p) (filter (λ v. test_means (value_slot x ∷ slots) t c test (with_value x v e) (always v ∷ rs) A (stands_value program slots e rs ls stands x v).values i) (universe_at shape n))
+        (λ v. body.tells turns script step (with_value x v e) (always v ∷ rs) (None ∷ ls) A (at p 0) (stands_value program slots e rs ls stands x v) i)
+        (other.tells turns script step e rs ls A (at p 1) stands i))
+        ∙ ap (λ us. one_tells p (pick script step p) (filter (λ v. holds program A (with_value x v e) t) us) (λ v. told program turns script step P A (with_value x v e) (at p 0)) (told program turns script step Q A e (at p 1)))
         (universe_at_is spec u n number low)
         ∙ sym ((cases_of turns script step).of_choose x u t P Q A e p);
   }
 
   -- over a name that is no universe
   pub forall_of_none : (slots : List Slot) (x u : Name) (t : Option Term) (P : Rule) → universe program u ≡ [] → IsResolvedRule program shape slots (tree.Forall x u t P) codes.Skip
-  unfolding meaning
+  unfolding telling
   forall_of_none slots x u t P none = record {
     sound = tt;
-    means = λ turns script step e rs ls A p stands. sym ((cases_of turns script step).of_forall x u t P A e p
-        ∙ ap (each (λ v k. runs program turns script step P A (with_value x v e) (at p k)) (λ v. holds program A (with_value x v e) t) 0) none);
+    tells = λ turns script step e rs ls A p stands. sym ((cases_of turns script step).of_forall x u t P A e p
+        ∙ ap (each_tells (λ v k. told program turns script step P A (with_value x v e) (at p k)) (λ v. holds program A (with_value x v e) t) 0) none);
   }
 
   pub choose_of_none : (slots : List Slot) (x u : Name) (t : Option Term) (P Q : Rule) (d : RuleCode) → universe program u ≡ [] → IsResolvedRule program shape slots Q d
       → IsResolvedRule program shape slots (tree.Choose x u t P Q) (codes.If (term_codes.Constant (Truth false)) codes.Skip d)
-  unfolding meaning reading
+  unfolding telling reading
   choose_of_none slots x u t P Q d none other = record {
     sound = (tt, tt, other.sound);
-    means = λ turns script step e rs ls A p stands. other.means turns script step e rs ls A (at p 1) stands ∙ sym ((cases_of turns script step).of_choose x u t P Q A e p
-        ∙ ap (λ us. one_of (pick script step p) (filter (λ v. holds program A (with_value x v e) t) us) (λ v. runs program turns script step P A (with_value x v e) (at p 0)) (runs program turns script step Q A e (at p 1))) none);
+    tells = λ turns script step e rs ls A p stands. other.tells turns script step e rs ls A (at p 1) stands ∙ sym ((cases_of turns script step).of_choose x u t P Q A e p
+        ∙ ap (λ us. one_tells p (pick script step p) (filter (λ v. holds program A (with_value x v e) t) us) (λ v. told program turns script step P A (with_value x v e) (at p 0)) (told program turns script step Q A e (at p 1))) none);
   }
 
   -- ---- target codes
@@ -267,21 +268,21 @@ module _ (spec : Spec) (good : IsWellFormed spec) where
 
   pub assign_resolved : (slots : List Slot) (x : Name) (ts : Terms) (to : Place) → IsResolvedTarget program shape slots x ts (Some to) → (t : Term) (c : Code) → IsResolved program shape (names_in slots) t c
       → IsResolvedRule program shape slots (tree.Assign x ts t) (codes.Assign to c)
-  unfolding meaning
+  unfolding telling
   assign_resolved slots x ts to place t c term = record {
     sound = (place.sound, term.sound);
-    means = λ turns script step e rs ls A p stands.
-        (λ i. record { result = Gives (update (place.means e rs ls A stands i) (term.means e rs A stands.values i)); instances = 0 })
+    tells = λ turns script step e rs ls A p stands.
+        (λ i. target_tells p (place.means e rs ls A stands i) (term.means e rs A stands.values i))
         ∙ sym ((cases_of turns script step).of_assign x ts t A e p);
   }
 
   -- of no location
   pub assign_nowhere : (slots : List Slot) (x : Name) (ts : Terms) → IsResolvedTarget program shape slots x ts None → (t : Term) → IsResolvedRule program shape slots (tree.Assign x ts t) codes.Skip
-  unfolding meaning
+  unfolding telling
   assign_nowhere slots x ts place t = record {
     sound = tt;
-    means = λ turns script step e rs ls A p stands.
-        (λ i. record { result = Gives (update (place.means e rs ls A stands i) (value program A e t)); instances = 0 }) ∙ sym ((cases_of turns script step).of_assign x ts t A e p);
+    tells = λ turns script step e rs ls A p stands.
+        (λ i. target_tells p (place.means e rs ls A stands i) (value program A e t)) ∙ sym ((cases_of turns script step).of_assign x ts t A e p);
   }
 
   -- ---- parameters that stand for terms, which belong to the caller
@@ -339,24 +340,24 @@ module _ (spec : Spec) (good : IsWellFormed spec) where
   pub call_resolved : (slots : List Slot) (target : Option (Name × Terms)) (to : Option Place) → resolved_target_in spec slots target to → (f : Name) (ts : Terms) (cs : Codes) → AreResolved program shape (names_in slots) ts cs
       → (xs : List Name) (P : Rule) → declared program f ≡ Some (NamedRule xs P)
       → (c : RuleCode) → IsResolvedRule program shape (called_slots (is_some to) (take (how_many ts) xs)) P c → IsResolvedRule program shape slots (tree.Call target f ts) (codes.Call c to cs)
-  unfolding meaning
+  unfolding telling
   call_resolved slots target to answer f ts cs are xs P says c body = record {
     sound = (body.sound, target_sound slots target to answer, all_sound spec good (names_in slots) ts cs are);
-    means = λ turns script step e rs ls A p stands.
+    tells = λ turns script step e rs ls A p stands.
         let l = optional_target_location shape to rs ls A in
         let inner = bind_terms xs ts e in
         let names = take (how_many ts) xs in
         let called = stands_called program names xs ts e (named_readings shape cs rs) (agrees_terms (names_in slots) e rs stands.values xs ts cs are) l in
-        body.means turns script step (located l inner) (result_readings l ++ named_readings shape cs rs) (result_locations l) A (at p 0)
+        body.tells turns script step (located l inner) (result_readings l ++ named_readings shape cs rs) (result_locations l) A (at p 0)
         (subst (λ b. PositionsStand program (called_slots b names) (located l inner) (result_readings l ++ named_readings shape cs rs) (result_locations l)) (target_some slots target to answer e rs ls A stands) called)
-        ∙ ap (λ there. runs program turns script step P A there (at p 0)) (ap (λ l. located l inner) (target_means slots target to answer e rs ls A stands) ∙ answering_is A e target inner)
+        ∙ ap (λ there. told program turns script step P A there (at p 0)) (ap (λ l. located l inner) (target_means slots target to answer e rs ls A stands) ∙ answering_is A e target inner)
         ∙ sym ((cases_of turns script step).of_call target f ts xs P A e p says (rule_rank_low spec f good));
   }
 
   -- a call of no rule
   pub no_rule_resolved : (slots : List Slot) (target : Option (Name × Terms)) (f : Name) (ts : Terms) → rule_number (named spec f) ≡ None → IsResolvedRule program shape slots (tree.Call target f ts) codes.Skip
-  unfolding meaning
-  no_rule_resolved slots target f ts none = record { sound = tt; means = λ turns script step e rs ls A p stands. called_names spec turns script step A e p target f ts (named spec f) refl none }
+  unfolding telling
+  no_rule_resolved slots target f ts none = record { sound = tt; tells = λ turns script step e rs ls A p stands. untold_names spec turns script step A e p target f ts (named spec f) refl none }
 
 -- ---- lists of rules, resolved one after the other
 

@@ -66,5 +66,7 @@ pub fn run_gated<R: Threads + Sync, G: Gate + Sync, S: Sink>(
     };
     resolving_laws();
     let pooled = Pooled::new(rt, limits, gate).for_rule(checked.signature(), &code);
-    run_steps(alloc, &pooled, &resolved, &script, limits.steps, out)
+    let ended = run_steps(alloc, &pooled, &resolved, &script, limits.steps, out);
+    drop(code);
+    ended
 }

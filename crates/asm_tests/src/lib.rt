@@ -13,12 +13,12 @@ pub mod plain;
 mod pool;
 pub mod rules;
 #[cfg(test)]
+mod signatures;
+#[cfg(test)]
 mod state;
 #[cfg(test)]
 mod striped;
 #[cfg(test)]
 mod syntax;
-#[cfg(test)]
-mod two;
 #[cfg(test)]
 mod updates;

@@ -24,7 +24,7 @@ pub enum Plain {
 pub type Entry = (usize, Plain, Plain);
 
 /// The contents of seven locations if there are none.
-pub static NOTHING: [Plain; 7] = [Plain::Undef; 7];
+pub const NOTHING: [Plain; 7] = [Plain::Undef; 7];
 
 pub const ONE: Plain = Plain::Number(1);
 
@@ -72,18 +72,25 @@ pub fn has_contents(signature: &Signature, state: &State, contents: &[Plain]) ->
     true
 }
 
-/// A summary to which these entries were added, one after the other, except those that are out of
-/// range or of order.
+/// Adds these entries, one after the other, except those that are out of range or of order.
+pub fn add_all(summary: &mut Summary, entries: &[Entry]) -> Result<(), AllocError>
+    ensures { summary.new.count ≡ summary.old.count }
+{
+    for (n, low, high) in entries {
+        let (low, high) = (value(*low), value(*high));
+        if *n < summary.count() && low.code() <= high.code() {
+            summary.add(*n, low, high)?;
+        }
+    }
+    Ok(())
+}
+
+/// A summary to which these entries were added so.
 pub fn summary_of(alloc: Global, count: usize, entries: &[Entry]) -> Result<Summary, AllocError>
     ensures { IfOk result (λ s. s.count ≡ count) }
 {
     let mut summary = Summary::new(alloc, count);
-    for (n, low, high) in entries {
-        let (low, high) = (value(*low), value(*high));
-        if *n < count && low.code() <= high.code() {
-            summary.add(*n, low, high)?;
-        }
-    }
+    add_all(&mut summary, entries)?;
     Ok(summary)
 }
 

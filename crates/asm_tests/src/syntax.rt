@@ -4,11 +4,169 @@ use asm_syntax::{InputError, Keyword, Kind, LexError, Symbol, Token, tokens};
 use std::alloc::{AllocError, Global};
 use std::test::Fail;
 
+/// A text, and its tokens.
+type Tokens = (&'static [u8], &'static [Token]);
+
+static TOKENS: [Tokens; 9] = [
+    (
+        b"0..3",
+        &[
+            Token {
+                kind: Kind::Number(0),
+                start: 0,
+                end: 1,
+            },
+            Token {
+                kind: Kind::Symbol(Symbol::Dots),
+                start: 1,
+                end: 3,
+            },
+            Token {
+                kind: Kind::Number(3),
+                start: 3,
+                end: 4,
+            },
+        ],
+    ),
+    (
+        b"a<-1",
+        &[
+            Token {
+                kind: Kind::Name,
+                start: 0,
+                end: 1,
+            },
+            Token {
+                kind: Kind::Symbol(Symbol::LeftArrow),
+                start: 1,
+                end: 3,
+            },
+            Token {
+                kind: Kind::Number(1),
+                start: 3,
+                end: 4,
+            },
+        ],
+    ),
+    (
+        b"a < -",
+        &[
+            Token {
+                kind: Kind::Name,
+                start: 0,
+                end: 1,
+            },
+            Token {
+                kind: Kind::Symbol(Symbol::Less),
+                start: 2,
+                end: 3,
+            },
+            Token {
+                kind: Kind::Symbol(Symbol::Minus),
+                start: 4,
+                end: 5,
+            },
+        ],
+    ),
+    (
+        b"CoreASM coreASM i_ // end",
+        &[
+            Token {
+                kind: Kind::Keyword(Keyword::CoreAsm),
+                start: 0,
+                end: 7,
+            },
+            Token {
+                kind: Kind::Name,
+                start: 8,
+                end: 15,
+            },
+            Token {
+                kind: Kind::Name,
+                start: 16,
+                end: 18,
+            },
+        ],
+    ),
+    (
+        b"CoreASM coreASM in",
+        &[
+            Token {
+                kind: Kind::Keyword(Keyword::CoreAsm),
+                start: 0,
+                end: 7,
+            },
+            Token {
+                kind: Kind::Name,
+                start: 8,
+                end: 15,
+            },
+            Token {
+                kind: Kind::Keyword(Keyword::In),
+                start: 16,
+                end: 18,
+            },
+        ],
+    ),
+    // Comments, and numbers at the edges of what is one.
+    (b" \t\r\n// x\n/* $ /* **/", &[]),
+    (
+        b"/**/x",
+        &[Token {
+            kind: Kind::Name,
+            start: 4,
+            end: 5,
+        }],
+    ),
+    (
+        b"00100000000000000000",
+        &[Token {
+            kind: Kind::Number(100_000_000_000_000_000),
+            start: 0,
+            end: 20,
+        }],
+    ),
+    (
+        b"1000000000000001",
+        &[Token {
+            kind: Kind::Number(1_000_000_000_000_001),
+            start: 0,
+            end: 16,
+        }],
+    ),
+];
+
+/// A text, and the fault that is first in it.
+type Faulty = (&'static [u8], LexError);
+
+static FAULTS: [Faulty; 10] = [
+    (b"x /*/ y", LexError::OpenComment { at: 2 }),
+    (b"CoreASM T /*", LexError::OpenComment { at: 10 }),
+    (b"CoreASM T$", LexError::BadByte { at: 9 }),
+    (b"a / b", LexError::BadByte { at: 2 }),
+    (b"a.", LexError::BadByte { at: 1 }),
+    (b"!", LexError::BadByte { at: 0 }),
+    (b"x 12_ $", LexError::BadNumber { at: 2 }),
+    (b"100000000000000001", LexError::BadNumber { at: 0 }),
+    (b"18446744073709551617", LexError::BadNumber { at: 0 }),
+    (
+        b"100000000000000000000000000000000",
+        LexError::BadNumber { at: 0 },
+    ),
+];
+
 /// Whether the text has just these tokens.
 fn gives(alloc: Global, text: &[u8], wanted: &[Token]) -> bool {
     match tokens(alloc, text) {
         Ok(found) => found.as_slice() == wanted,
         Err(_) => false,
+    }
+}
+
+#[test]
+fn longest_tokens(rt: HostRuntime) {
+    for (i, (text, wanted)) in TOKENS.iter().enumerate() {
+        assert!(rt; gives(rt.alloc(), text, wanted), "{i}");
     }
 }
 
@@ -20,81 +178,11 @@ fn fails(alloc: Global, text: &[u8], wanted: LexError) -> bool {
     }
 }
 
-fn token(kind: Kind, start: usize, end: usize) -> Token {
-    Token { kind, start, end }
-}
-
 #[test]
-fn longest_tokens(rt: HostRuntime) -> Result<(), Fail> {
-    let alloc = rt.alloc();
-    let dots = Kind::Symbol(Symbol::Dots);
-    let range = [
-        token(Kind::Number(0), 0, 1),
-        token(dots, 1, 3),
-        token(Kind::Number(3), 3, 4),
-    ];
-    assert!(rt; gives(alloc, b"0..3", &range));
-    let arrow = Kind::Symbol(Symbol::LeftArrow);
-    let less = [
-        token(Kind::Name, 0, 1),
-        token(arrow, 1, 3),
-        token(Kind::Number(1), 3, 4),
-    ];
-    assert!(rt; gives(alloc, b"a<-1", &less));
-    let spaced = [
-        token(Kind::Name, 0, 1),
-        token(Kind::Symbol(Symbol::Less), 2, 3),
-        token(Kind::Symbol(Symbol::Minus), 4, 5),
-    ];
-    assert!(rt; gives(alloc, b"a < -", &spaced));
-    let words = [
-        token(Kind::Keyword(Keyword::CoreAsm), 0, 7),
-        token(Kind::Name, 8, 15),
-        token(Kind::Name, 16, 18),
-    ];
-    assert!(rt; !gives(alloc, b"CoreASM coreASM in", &words[..2]));
-    assert!(rt; gives(alloc, b"CoreASM coreASM i_ // end", &words));
-    Ok(())
-}
-
-#[test]
-fn comments(rt: HostRuntime) -> Result<(), Fail> {
-    let alloc = rt.alloc();
-    assert!(rt; gives(alloc, b" \t\r\n// x\n/* $ /* **/", &[]));
-    assert!(rt; gives(alloc, b"/**/x", &[token(Kind::Name, 4, 5)]));
-    assert!(rt; fails(alloc, b"x /*/ y", LexError::OpenComment { at: 2 }));
-    assert!(rt; fails(alloc, b"CoreASM T /*", LexError::OpenComment { at: 10 }));
-    Ok(())
-}
-
-#[test]
-fn faults(rt: HostRuntime) -> Result<(), Fail> {
-    let alloc = rt.alloc();
-    assert!(rt; fails(alloc, b"CoreASM T$", LexError::BadByte { at: 9 }));
-    assert!(rt; fails(alloc, b"a / b", LexError::BadByte { at: 2 }));
-    assert!(rt; fails(alloc, b"a.", LexError::BadByte { at: 1 }));
-    assert!(rt; fails(alloc, b"!", LexError::BadByte { at: 0 }));
-    assert!(rt; fails(alloc, b"x 12_ $", LexError::BadNumber { at: 2 }));
-    assert!(rt; fails(alloc, b"100000000000000001", LexError::BadNumber { at: 0 }));
-    assert!(rt;
-        fails(
-            alloc,
-            b"18446744073709551617",
-            LexError::BadNumber { at: 0 }
-        )
-    );
-    assert!(rt;
-        fails(
-            alloc,
-            b"100000000000000000000000000000000",
-            LexError::BadNumber { at: 0 }
-        )
-    );
-    let greatest = [token(Kind::Number(100_000_000_000_000_000), 0, 20)];
-    assert!(rt; gives(alloc, b"00100000000000000000", &greatest));
-    let inside = [token(Kind::Number(1_000_000_000_000_001), 0, 16)];
-    assert!(rt; gives(alloc, b"1000000000000001", &inside));
-    Ok(())
+fn faults(rt: HostRuntime) {
+    for (i, (text, wanted)) in FAULTS.iter().enumerate() {
+        assert!(rt; fails(rt.alloc(), text, *wanted), "{i}");
+    }
 }
 
 /// Whether a text is told from another by its bytes, and its copy isn't.

@@ -1,6 +1,4 @@
 -- Bridge to the code. The assignments whose updates stand in an evaluation of rules.
---     assigned_of, all_assigned     an assignment of the code, and a list of them, as those of the
---                                   definition
 --     stands_in at l f p R A        what stands of R at the location l, under a frame, at p and in
 --                                   the state A, with an evaluation's choices
 --     stands_at                     the same in what the evaluation's view shows
@@ -8,7 +6,7 @@
 --     IsNext                        what comes of the next part of a sequence: the set so far is
 --                                   joined with its own, and what stands goes on with what stands
 --                                   in its own
-use Rattle.std.specs.Prelude.{◌≡◌, ℕ, List, map, Option, Some, None}
+use Rattle.std.specs.Prelude.{◌≡◌, ℕ, List, Option, Some, None}
 use Rattle.asm_state.specs.Location.{Location, State}
 use Rattle.asm_state.specs.Signature.{Shape}
 use Rattle.asm_state.specs.Updates.{UpdateSet, merge}
@@ -23,14 +21,8 @@ use Rattle.asm_eval.specs.code.Frames.{readings_of}
 use Rattle.asm_eval.specs.code.Evaluation.{evaluation_choices, frame_locations, evaluation_shape, evaluation_state}
 use Rattle.asm_eval.specs.declared.frame.Frame.{Frame}
 use Rattle.asm_eval.specs.declared.evaluation.Evaluation.{Evaluation}
-use Rattle.asm_clash.specs.Standing.{Assigned, later, order_stands, parts_of, standing}
-use Rattle.asm_clash.specs.declared.assignment.Assignment.{Assignment}
-
-abbrev pub assigned_of : Assignment → Assigned
-assigned_of a = record { path = a.path; value = a.value }
-
-abbrev pub all_assigned : List Assignment → List Assigned
-all_assigned found = map assigned_of found
+use Rattle.asm_clash.specs.Standing.{Assigned, later}
+use Rattle.asm_clash.specs.code.StandingCodes.{order_stands, parts_of, standing}
 
 module _ {P : Type 0} {picks : Ghosts P} (at : Evaluation P picks) (l : Location) where
   abbrev pub stands_in : Frame → Path → RuleCode → State → List Assigned

@@ -4,6 +4,7 @@
 --                               at p
 --     rule_upon                 the same in the state in which a set has been fired
 --     parts_at, in_order_at     what rules yield, beside and after each other
+--     in_order_upon             after each other in the state in which a set has been fired
 --     HasLocations at made      the set that is being formed has the locations of the state
 use Rattle.std.specs.Prelude.{◌≡◌, ℕ, Bool, List, [], ◌∷◌, ◌++◌, map, Option, None, option_map}
 use Rattle.asm_state.specs.declared.value.Value.{Value}
@@ -100,6 +101,9 @@ module _ {P : Type 0} {picks : Ghosts P} (at : Evaluation P picks) where
 
   abbrev pub in_order_at : Frame → Path → RuleCodes → Outcome
   in_order_at f p Rs = in_order_in f p 0 Rs evaluation_state
+
+  abbrev pub in_order_upon : UpdateSet → Frame → Path → RuleCodes → Outcome
+  in_order_upon U f p Rs = in_order_in f p 0 Rs (fire evaluation_state U)
 
   -- the body for each value at the positions from one to before another for which the condition
   -- holds

@@ -26,14 +26,20 @@ use Rattle.asm_meaning.specs.Yields.{Path, Result, Gives, Exhausted, at}
 use Rattle.asm_meaning.specs.declared.part_set.PartSet.{PartSet}
 use Rattle.asm_meaning.proofs.Sequences.{part_laws-consistent_part as consistent_part, part_laws-ending_part as ending_part, part_laws-some_turn as some_turn, part_laws-consistent_turn as consistent_turn, part_laws-ending_turn as ending_turn}
 use Rattle.asm_code.specs.code.CodeTree as codes
+use Rattle.asm_code.specs.code.Readings.{reading}
+use Rattle.asm_code.specs.code.RuleMeaning.{target_location}
+use Rattle.asm_code.specs.code.RuleStories.{telling}
 use Rattle.asm_code.specs.code.RuleTree as tree
 use Rattle.asm_code.specs.code.RuleViews.{rule_of, rules_of}
 use Rattle.asm_code.specs.declared.rule_code.RuleCode.{RuleCode}
-use Rattle.asm_eval.specs.code.Evaluation.{rule_in, evaluation_shape, evaluation_state}
+use Rattle.asm_eval.specs.code.Evaluation.{evaluation_choices, frame_locations, rule_in, evaluation_shape, evaluation_state}
+use Rattle.asm_eval.specs.code.Frames.{readings_of}
 use Rattle.asm_eval.specs.declared.frame.Frame.{Frame}
 use Rattle.asm_eval.specs.declared.evaluation.Evaluation.{Evaluation}
-use Rattle.asm_explore.specs.ChoicePoints.{Asking, asks, asking_parts, after_set, after_turn_set}
+use Rattle.asm_explore.specs.ChoicePoints.{Asking, after_set}
+use Rattle.asm_explore.specs.code.AskedRules.{after_turn_set}
 use Rattle.asm_explore.specs.code.AskedPieces.{asks_at, order_asked, turns_asked, IsUpon}
+use Rattle.asm_explore.proofs.ChoiceLemmas.AskedParts.{target_asks, order_first, turns_first}
 use Rattle.asm_explore.proofs.OutcomeLemmas.SequenceOutcomes.{none_consistent}
 
 -- ---- whether a sequence goes on
@@ -183,33 +189,36 @@ module _ {P : Type 0} {picks : Ghosts P} (evaluation : Evaluation P picks) (f : 
   parts_left Rs i B = order_asked evaluation f p i (rules_of (map rule_of (drop i Rs))) B
 
   pub seq_asks : (Rs : List RuleCode) (B : State) → parts_left Rs 0 B ≡ asks_at evaluation f p (tree.Seq (rules_of (map rule_of Rs))) B
-  unfolding asks
+  unfolding telling
   seq_asks Rs B = refl
 
   pub order_next : (Rs : List RuleCode) (i : ℕ) (R : RuleCode) → i < length Rs → R ≡ get_or Rs i R → (B : State)
       → parts_left Rs i B ≡ asks_at evaluation f (at p i) (rule_of R) B ++ after_set (rule_in evaluation f (at p i) (rule_of R) B).result (λ V. parts_left Rs (i + 1) (fire B V))
-  unfolding asking_parts
+  unfolding telling
   order_next Rs i R low is B =
       at_drop_more (λ (some : List RuleCode). order_asked evaluation f p i (rules_of (map rule_of some)) B) Rs i R low
+      ∙ order_first (evaluation_shape evaluation) evaluation.turns (evaluation_choices evaluation) (rule_of (get_or Rs i R)) (readings_of (evaluation_shape evaluation) f) (frame_locations (evaluation_shape evaluation) f)
+      (rules_of (map rule_of (drop (i + 1) Rs))) i B p
       ∙ ap (λ k. asks_at evaluation f (at p i) (rule_of (get_or Rs i R)) B
       ++ after_set (rule_in evaluation f (at p i) (rule_of (get_or Rs i R)) B).result (λ V. order_asked evaluation f p k (rules_of (map rule_of (drop (i + 1) Rs))) (fire B V))) (sym (add-one i))
       ∙ ap (λ (x : RuleCode). asks_at evaluation f (at p i) (rule_of x) B ++ after_set (rule_in evaluation f (at p i) (rule_of x) B).result (λ V. parts_left Rs (i + 1) (fire B V))) (sym is)
 
   pub order_end : (Rs : List RuleCode) (i : ℕ) → length Rs ≤ i → (B : State) → parts_left Rs i B ≡ []
-  unfolding asking_parts
+  unfolding telling
   order_end Rs i past B = ap (λ some. order_asked evaluation f p i (rules_of (map rule_of some)) B) (drop_of_length-le Rs past)
 
   abbrev pub turns_left : tree.RuleCode → (left t : ℕ) → State → List Asking
   turns_left R left t B = turns_asked evaluation f p left t R B
 
   pub iterate_asks : (R : tree.RuleCode) (B : State) → turns_left R evaluation.turns 0 B ≡ asks_at evaluation f p (tree.Iterate R) B
-  unfolding asks
+  unfolding telling
   iterate_asks R B = refl
 
   pub turns_next : (R : tree.RuleCode) (left t : ℕ) (B : State)
       → turns_left R (suc left) t B ≡ asks_at evaluation f (at p t) R B ++ after_turn_set (rule_in evaluation f (at p t) R B).result (λ V. turns_left R left (t + 1) (fire B V))
   turns_next R left t B =
-      ap (λ k. asks_at evaluation f (at p t) R B ++ after_turn_set (rule_in evaluation f (at p t) R B).result (λ V. turns_left R left k (fire B V))) (sym (add-one t))
+      turns_first (evaluation_shape evaluation) evaluation.turns (evaluation_choices evaluation) R (readings_of (evaluation_shape evaluation) f) (frame_locations (evaluation_shape evaluation) f) left t B p
+      ∙ ap (λ k. asks_at evaluation f (at p t) R B ++ after_turn_set (rule_in evaluation f (at p t) R B).result (λ V. turns_left R left k (fire B V))) (sym (add-one t))
 
   -- of `all` turns
   pub turns_step : (R : tree.RuleCode) (all t : ℕ) → t < all → (B : State)
@@ -224,9 +233,12 @@ module _ {P : Type 0} {picks : Ghosts P} (evaluation : Evaluation P picks) (f : 
   -- ---- what asks nothing
 
   pub skip_none : (R : tree.RuleCode) (B : State) → R ≡ tree.Skip → asks_at evaluation f p R B ≡ []
-  unfolding asks
+  unfolding telling
   skip_none R B is = ap (λ Q. asks_at evaluation f p Q B) is
 
   pub assign_none : (R : tree.RuleCode) (to : tree.Place) (t : codes.Code) (B : State) → R ≡ tree.Assign to t → asks_at evaluation f p R B ≡ []
-  unfolding asks
-  assign_none R to t B is = ap (λ Q. asks_at evaluation f p Q B) is
+  unfolding telling
+  assign_none R to t B is =
+      let rs = readings_of (evaluation_shape evaluation) f in
+      ap (λ Q. asks_at evaluation f p Q B) is
+      ∙ target_asks p (target_location (evaluation_shape evaluation) to rs (frame_locations (evaluation_shape evaluation) f) B) (reading (evaluation_shape evaluation) t rs B)

@@ -23,7 +23,11 @@ use Rattle.asm_code.specs.code.RuleTree.{RuleCode, Skip, Assign, Par, Seq, If, L
 use Rattle.asm_eval.specs.code.OpenedPieces.{is_closed}
 use Rattle.asm_eval.specs.code.Opening.{Work, all_of, one_work, choice_works, part_works, part_of, body_works, counted_works, spans, span_works, rule_works}
 use Rattle.asm_eval.specs.code.Pieces.{HasAtMost, all_positions}
-use Rattle.asm_explore.specs.ChoicePoints.{Asking, asks, asking_parts, parts_ask, each_asks, one_asks}
+use Rattle.asm_meaning.specs.Program.{nothing_bound}
+use Rattle.asm_meaning.specs.Story.{Story, Beside, Instance, parts_tell, each_tells, one_tells}
+use Rattle.asm_code.specs.code.RuleStories.{telling, tellings}
+use Rattle.asm_explore.specs.ChoicePoints.{Asking, asked}
+use Rattle.asm_explore.specs.code.AskedRules.{asks}
 use Rattle.asm_explore.specs.code.AskedPieces.{own_asks, own_choice}
 use Rattle.asm_explore.specs.code.ListElements.{Each}
 use Rattle.asm_explore.proofs.Elements.{each_weaker}
@@ -51,37 +55,40 @@ module _ (shape : Shape) (turns : ℕ) (chosen : Path → ℕ) (A : State) where
     one_asked : (P : RuleCode) (k : ℕ) → asks_here P (at p k) ≡ all_ask (works_of (one_work P rs ls p k))
     one_asked P k = sym (append-nil (asks_here P (at p k)))
 
-    either_asked : (b : Bool) (P Q : RuleCode) → cond b (asks_here P (at p 0)) (asks_here Q (at p 1)) ≡ all_ask (works_of (cond b (one_work P rs ls p 0) (one_work Q rs ls p 1)))
+    abbrev tells_here : RuleCode → Path → Story
+    tells_here P q = telling shape turns chosen P rs ls A q
+
+    either_asked : (b : Bool) (P Q : RuleCode) → asked (cond b (tells_here P (at p 0)) (tells_here Q (at p 1))) ≡ all_ask (works_of (cond b (one_work P rs ls p 0) (one_work Q rs ls p 1)))
     either_asked true P Q = one_asked P 0
     either_asked false P Q = one_asked Q 1
 
-    parts_asked : (Ps : RuleCodes) (k : ℕ) → parts_ask (asking_parts shape turns chosen Ps rs ls) k A p ≡ all_ask (part_works k Ps rs ls p)
-    unfolding asking_parts
+    parts_asked : (Ps : RuleCodes) (k : ℕ) → asked (parts_tell (tellings shape turns chosen Ps rs ls) k A nothing_bound p) ≡ all_ask (part_works k Ps rs ls p)
+    unfolding telling
     parts_asked no_rules k = refl
     parts_asked (rule_then P Ps) k =
         ap (λ more. asks_here P (at p k) ++ more) (parts_asked Ps (suc k) ∙ ap (λ n. all_ask (part_works n Ps rs ls p)) (sym (add-one k)))
 
     module _ (c : Option Code) (P : RuleCode) where
-      abbrev body_asks : Value → ℕ → List Asking
-      body_asks v k = asks shape turns chosen P (always v ∷ rs) (None ∷ ls) A (at p k)
+      abbrev body_tells : Value → ℕ → Story
+      body_tells v k = telling shape turns chosen P (always v ∷ rs) (None ∷ ls) A (at p k)
 
       abbrev passing_now : Value → Bool
       passing_now v = passes shape c (always v ∷ rs) A
 
-      body_asked : (b : Bool) (k : ℕ) (v : Value) (vs : List Value) (rest : List Asking) → rest ≡ all_ask (body_works shape A c P rs ls p (k + 1) vs)
-          → cond b (body_asks v k ++ rest) rest
+      body_asked : (b : Bool) (k : ℕ) (v : Value) (vs : List Value) (rest : Story) → asked rest ≡ all_ask (body_works shape A c P rs ls p (k + 1) vs)
+          → asked (cond b (Beside (Instance (body_tells v k)) rest) rest)
           ≡ all_ask (cond b (all_of P (always v ∷ rs) (None ∷ ls) (at p k) ∷ body_works shape A c P rs ls p (k + 1) vs) (body_works shape A c P rs ls p (k + 1) vs))
-      body_asked true k v vs rest is = ap (λ more. body_asks v k ++ more) is
+      body_asked true k v vs rest is = ap (λ more. asked (body_tells v k) ++ more) is
       body_asked false k v vs rest is = is
 
-      bodies_asked : (k : ℕ) (vs : List Value) → each_asks body_asks passing_now k vs ≡ all_ask (body_works shape A c P rs ls p k vs)
+      bodies_asked : (k : ℕ) (vs : List Value) → asked (each_tells body_tells passing_now k vs) ≡ all_ask (body_works shape A c P rs ls p k vs)
       bodies_asked k [] = refl
       bodies_asked k (v ∷ vs) =
-          body_asked (passing_now v) k v vs (each_asks body_asks passing_now (suc k) vs)
+          body_asked (passing_now v) k v vs (each_tells body_tells passing_now (suc k) vs)
           (bodies_asked (suc k) vs ∙ ap (λ n. all_ask (body_works shape A c P rs ls p n vs)) (sym (add-one k)))
 
       span_asked : (cut u : ℕ) → length (universe_at shape u) ≤ cut
-          → each_asks body_asks passing_now 0 (universe_at shape u) ≡ all_ask (works_of (span_works shape A cut u c P rs ls p 0 (length (universe_at shape u))))
+          → asked (each_tells body_tells passing_now 0 (universe_at shape u)) ≡ all_ask (works_of (span_works shape A cut u c P rs ls p 0 (length (universe_at shape u))))
       span_asked cut u few =
           let vs = universe_at shape u in
           let to = length vs in
@@ -90,7 +97,7 @@ module _ (shape : Shape) (turns : ℕ) (chosen : Path → ℕ) (A : State) where
           ∙ ap (λ b. all_ask (works_of (cond b (counted_works (body_works shape A c P rs ls p 0 (between 0 to vs))) (Some (map (part_of (Forall u c P) rs ls p) (spans cut (to - 0) 0 to), 0))))) (sym (short to cut few))
 
     choice_asked : (n : ℕ) (vs : List Value) (P Q : RuleCode)
-        → one_asks p n vs (λ v. asks shape turns chosen P (always v ∷ rs) (None ∷ ls) A (at p 0)) (asks_here Q (at p 1))
+        → asked (one_tells p n vs (λ v. telling shape turns chosen P (always v ∷ rs) (None ∷ ls) A (at p 0)) (tells_here Q (at p 1)))
         ≡ own_choice p n vs ++ all_ask (works_of (choice_works (taken n vs) P Q rs ls p))
     choice_asked n [] P Q = one_asked Q 1
     choice_asked n (v ∷ vs) P Q =
@@ -100,7 +107,7 @@ module _ (shape : Shape) (turns : ℕ) (chosen : Path → ℕ) (A : State) where
 
     pub opened_asks : (cut : ℕ) (R : RuleCode) → is_closed R ≡ false → HasAtMost (all_positions shape R) cut
         → asks shape turns chosen R rs ls A p ≡ own_asks shape chosen R rs A p ++ all_ask (works_of (rule_works shape A chosen cut R rs ls p))
-    unfolding asks
+    unfolding telling
     opened_asks cut Skip opens few = cc
     opened_asks cut (Assign to t) opens few = cc
     opened_asks cut (Seq Ps) opens few = cc

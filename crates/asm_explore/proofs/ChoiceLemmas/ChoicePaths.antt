@@ -136,7 +136,7 @@ before_none p k cs is = subst (IsPlacedBefore p k) (sym is) (record { apart = tt
 -- ---- outcomes
 
 pub have_weaker : (P Q : List Choice → Type 0) → ((cs : List Choice) → P cs → Q cs) → (fs : List ListedOutcome) → HaveChoices P fs → HaveChoices Q fs
-have_weaker P Q f = each_weaker (λ g. P g.choices.items) (λ g. Q g.choices.items) (λ g. f g.choices.items)
+have_weaker P Q f = each_weaker (λ g. P g.choices) (λ g. Q g.choices) (λ g. f g.choices)
 
 pub ok_have : {E : Type 0} (P Q : List Choice → Type 0) (r : Returned (Vec ListedOutcome Global) E) → ((cs : List Choice) → P cs → Q cs)
     → IfOk r (λ fs. HaveChoices P fs.items) → IfOk r (λ fs. HaveChoices Q fs.items)

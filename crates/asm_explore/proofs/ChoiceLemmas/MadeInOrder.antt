@@ -80,64 +80,64 @@ module _ (shape : Shape) (turns : Bool) (A : State) (here : Situation → State 
   -- the choices of one of those that go on, and of an outcome of the next part after them
   module _ (f : ListedOutcome) (so_far : Updates) (is : f.answer ≡ answer.Set so_far) (state : State)
       (fired : (U : UpdateSet) → Stands shape so_far.set U → IsConsistent U → state ≡ fire A U)
-      (own : AreMade total f.choices.items) (on : HasSet shape (MakesOfAll A total left) f) where
+      (own : AreMade total f.choices) (on : HasSet shape (MakesOfAll A total left) f) where
     stands : (s : Situation) (U : UpdateSet) → Shows shape f.answer (Gives U) → Stands shape so_far.set U
     stands s U h = subst (λ a. Shows shape a (Gives U)) is h
 
-    pub then_made : (ds : List Choice) → AreMade (λ s. makes s state) ds → AreMade total (f.choices.items ++ ds)
+    pub then_made : (ds : List Choice) → AreMade (λ s. makes s state) ds → AreMade total (f.choices ++ ds)
     then_made ds h = λ s taken.
-        let first = each_first (IsTaken s) f.choices.items ds taken in
+        let first = each_first (IsTaken s) f.choices ds taken in
         let here = on s first in
-        each_append (λ c. IsAmong c (total s)) f.choices.items ds (own s first)
+        each_append (λ c. IsAmong c (total s)) f.choices ds (own s first)
         (each_weaker (λ c. IsAmong c (makes s state)) (λ c. IsAmong c (total s))
-        (part_within s here.0 state (fired here.0 (stands s here.0 here.1) here.2.consistent) here.2) ds (h s (each_last (IsTaken s) f.choices.items ds taken)))
+        (part_within s here.0 state (fired here.0 (stands s here.0 here.1) here.2.consistent) here.2) ds (h s (each_last (IsTaken s) f.choices ds taken)))
 
     -- one that goes on with the next part
-    then_on : (part : List ListedOutcome) → Each (IsSound shape (λ s. here s state)) part → (g : ListedOutcome) → ComesOf shape turns so_far.set f.choices.items part g
+    then_on : (part : List ListedOutcome) → Each (IsSound shape (λ s. here s state)) part → (g : ListedOutcome) → ComesOf shape turns so_far.set f.choices part g
         → HasSet shape (MakesOfAll A total left_then) g
     then_on part sound g of = λ s taken.
         let all = subst (Each (IsTaken s)) of.chosen taken in
-        let it = on s (each_first (IsTaken s) f.choices.items of.one.choices.items all) in
+        let it = on s (each_first (IsTaken s) f.choices of.one.choices all) in
         let there = stands s it.0 it.1 in
-        let shown = each_among (IsSound shape (λ s. here s state)) part of.one of.among sound s (each_last (IsTaken s) f.choices.items of.one.choices.items all) in
+        let shown = each_among (IsSound shape (λ s. here s state)) part of.one of.among sound s (each_last (IsTaken s) f.choices of.one.choices all) in
         let goes = of.goes_on.shows it.0 (here s state) there shown in
         (merge it.0 goes.0, goes.3, rest_within s it.0 goes.0 state (fired it.0 there it.2.consistent) it.2 goes.1 goes.2)
 
-    all_on : (part : List ListedOutcome) (old new : SequenceOutcomes) → Each (IsSound shape (λ s. here s state)) part → SortsAll shape turns so_far.set f.choices.items part old new
+    all_on : (part : List ListedOutcome) (old new : SequenceOutcomes) → Each (IsSound shape (λ s. here s state)) part → SortsAll shape turns so_far.set f.choices part old new
         → Each (HasSet shape (MakesOfAll A total left_then)) old.more.items → Each (HasSet shape (MakesOfAll A total left_then)) new.more.items
     all_on part old new sound sorts so_on =
-        each_weaker (λ g. IsIn g old.more.items ⊎ ComesOf shape turns so_far.set f.choices.items part g) (HasSet shape (MakesOfAll A total left_then)) by_way new.more.items sorts.more_from
+        each_weaker (λ g. IsIn g old.more.items ⊎ ComesOf shape turns so_far.set f.choices part g) (HasSet shape (MakesOfAll A total left_then)) by_way new.more.items sorts.more_from
       where
-        by_way : (g : ListedOutcome) → IsIn g old.more.items ⊎ ComesOf shape turns so_far.set f.choices.items part g → HasSet shape (MakesOfAll A total left_then) g
+        by_way : (g : ListedOutcome) → IsIn g old.more.items ⊎ ComesOf shape turns so_far.set f.choices part g → HasSet shape (MakesOfAll A total left_then) g
         by_way g (inl h) = each_among (HasSet shape (MakesOfAll A total left_then)) old.more.items g h so_on
         by_way g (inr h) = then_on part sound g h
 
     pub one_made : (part : List ListedOutcome) (old new : SequenceOutcomes) → HaveChoices (AreMade (λ s. makes s state)) part → Lists shape (λ s. here s state) part
-        → SortsAll shape turns so_far.set f.choices.items part old new
+        → SortsAll shape turns so_far.set f.choices part old new
         → MadeSoFar shape A total left_then old.done.items old.more.items → MadeSoFar shape A total left_then new.done.items new.more.items
     one_made part old new made lists sorts so_on =
         let both : BothHave (AreMade total) new =
-        have_sorted (AreMade (λ s. makes s state)) (AreMade total) f.choices.items then_made part made old new sorts.chosen (so_on.done_made, so_on.front_made) in
+        have_sorted (AreMade (λ s. makes s state)) (AreMade total) f.choices then_made part made old new sorts.chosen (so_on.done_made, so_on.front_made) in
         record { done_made = both.0; front_made = both.1; front_on = all_on part old new lists.sound sorts so_on.front_on }
 
     -- a way through the next part, after those choices
-    pub way_then : (p : Path) (k : ℕ) → IsPlacedBefore p k f.choices.items → (ds : List Choice) → IsWay (at p k) (λ s. makes s state) ds → IsWay p total (f.choices.items ++ ds)
+    pub way_then : (p : Path) (k : ℕ) → IsPlacedBefore p k f.choices → (ds : List Choice) → IsWay (at p k) (λ s. makes s state) ds → IsWay p total (f.choices ++ ds)
     way_then p k before ds h = record {
-      placed = placed_in p (λ i. i < k + 1) (f.choices.items ++ ds) (before_part p k f.choices.items ds before h.placed);
+      placed = placed_in p (λ i. i < k + 1) (f.choices ++ ds) (before_part p k f.choices ds before h.placed);
       made = then_made ds h.made;
     }
 
     -- if that is refused, or the list of what comes of it
-    pub part_refused : {T : Type 0} (limit : ℕ) (p : Path) (k : ℕ) → IsPlacedBefore p k f.choices.items → (returned : Returned T OutcomesError) (e : OutcomesError) → IsErrAnd returned (λ again. again ≡ e)
+    pub part_refused : {T : Type 0} (limit : ℕ) (p : Path) (k : ℕ) → IsPlacedBefore p k f.choices → (returned : Returned T OutcomesError) (e : OutcomesError) → IsErrAnd returned (λ again. again ≡ e)
         → Refuses limit (λ q. IsWay (at p k) (λ s. makes s state)) e → IfErr returned (Refuses limit (λ q. IsWay p total))
     part_refused limit p k before returned e same h =
         refuses_on limit (λ q. IsWay p total) returned e same
-        (then_refuses limit (IsWay (at p k) (λ s. makes s state)) (IsWay p total) f.choices.items (way_then p k before) e h)
+        (then_refuses limit (IsWay (at p k) (λ s. makes s state)) (IsWay p total) f.choices (way_then p k before) e h)
 
-    pub sorted_refused : (limit : ℕ) (p : Path) (k : ℕ) → IsPlacedBefore p k f.choices.items → (part : List ListedOutcome) (sorted : SequenceOutcomes) → AllDiffer p (f ∷ []) sorted → AreDifferent (at p k) (choice_lists part)
+    pub sorted_refused : (limit : ℕ) (p : Path) (k : ℕ) → IsPlacedBefore p k f.choices → (part : List ListedOutcome) (sorted : SequenceOutcomes) → AllDiffer p (f ∷ []) sorted → AreDifferent (at p k) (choice_lists part)
         → HaveChoices (LieBelow (at p k)) part → HaveChoices (AreMade (λ s. makes s state)) part → BothHave (IsPlacedBefore p (k + 1)) sorted
         → HaveChoices (AreMade total) sorted.done.items → HaveChoices (AreMade total) sorted.more.items
-        → (first others : ℕ) (r : OutcomesError) → NamesRule p first others r → IsOverLimit limit (both_ways sorted ++ behind f.choices.items (choice_lists part)) r → Refuses limit (λ q. IsWay p total) r
+        → (first others : ℕ) (r : OutcomesError) → NamesRule p first others r → IsOverLimit limit (both_ways sorted ++ behind f.choices (choice_lists part)) r → Refuses limit (λ q. IsWay p total) r
     sorted_refused limit p k before part sorted differ part_differs placed made both done_made more_made =
         sorted_refuses limit (λ q. IsWay p total) (IsWay (at p k) (λ s. makes s state)) p k f (way_then p k before) part sorted differ part_differs
         (have_ways_made (at p k) (λ s. makes s state) part placed made)

@@ -20,7 +20,8 @@ use Rattle.asm_code.specs.code.RuleTree.{RuleCode}
 use Rattle.asm_resolve.specs.code.ResolvingLaws.{ResolvingLaws}
 use Rattle.asm_resolve.specs.code.RuleScopes.{resolved_rule_in}
 use Rattle.asm_explore.specs.declared.outcomes.listed_outcome.Choice.{Choice}
-use Rattle.asm_explore.specs.ChoicePoints.{Asking, after_set, asks_in, choices_of}
+use Rattle.asm_explore.specs.ChoicePoints.{Asking, after_set, choices_of}
+use Rattle.asm_explore.specs.code.AskedRules.{asks_in}
 use Rattle.asm_explore.specs.code.OutcomeLists.{Situation, Each, AreTaken, picked}
 use Rattle.asm_explore.specs.code.ChoicesMade.{made_in}
 use Rattle.asm_explore.specs.code.ChoicePaths.{HaveOwnPaths}

@@ -15,7 +15,7 @@ choice_laws = record {
       let it = free_has_script specification.program rank turns 1 A nothing_bound [] specification.main r ranked below yields in
       subst (Shown shape fs) it.2 (lists.complete (record { script = it.0; step = 1 }));
   sound = λ specification rank turns shape A fs ranked below lists.
-      each_weaker (IsSound shape (steps_from specification turns A)) (λ f. (s : Situation) → AreTaken s f.choices.items → (r : Result) × MayYield specification turns A r × Shows shape f.answer r)
+      each_weaker (IsSound shape (steps_from specification turns A)) (λ f. (s : Situation) → AreTaken s f.choices → (r : Result) × MayYield specification turns A r × Shows shape f.answer r)
       (λ f sound s taken. (
         steps_from specification turns A s,
         scripted_is_free specification.program rank turns s.script s.step A nothing_bound [] specification.main ranked below,

@@ -70,54 +70,54 @@ module _ {X : Type 0} where
 -- ---- the choices of outcomes
 
 pub have_ways : (P : List Choice → Type 0) (fs : List ListedOutcome) → HaveChoices P fs → Each P (choice_lists fs)
-have_ways P = each_mapped (λ f. P f.choices.items) P (λ f. f.choices.items) (λ f h. h)
+have_ways P = each_mapped (λ f. P f.choices) P (λ f. f.choices) (λ f h. h)
 
 pub ways_have : (P : List Choice → Type 0) (fs : List ListedOutcome) → Each P (choice_lists fs) → HaveChoices P fs
 ways_have P [] h = tt
 ways_have P (f ∷ fs) h = (h.0, ways_have P fs h.1)
 
 pub ways_take : (fs : List ListedOutcome) (i : ℕ) (f : ListedOutcome) → i < length fs → f ≡ get_or fs i f
-    → choice_lists (take (i + 1) fs) ≡ choice_lists (take i fs) ++ f.choices.items ∷ []
+    → choice_lists (take (i + 1) fs) ≡ choice_lists (take i fs) ++ f.choices ∷ []
 ways_take fs i f low is =
     ap choice_lists (take_more fs i f low)
-    ∙ map-append (λ g. g.choices.items) (take i fs) (get_or fs i f ∷ [])
-    ∙ ap (λ (g : ListedOutcome). choice_lists (take i fs) ++ g.choices.items ∷ []) (sym is)
+    ∙ map-append (λ g. g.choices) (take i fs) (get_or fs i f ∷ [])
+    ∙ ap (λ (g : ListedOutcome). choice_lists (take i fs) ++ g.choices ∷ []) (sym is)
 
 -- and of what comes of them
 pub mapped_take : (g : List Choice → List Choice) (fs : List ListedOutcome) (i : ℕ) (f : ListedOutcome) → i < length fs → f ≡ get_or fs i f
-    → map g (choice_lists (take (i + 1) fs)) ≡ map g (choice_lists (take i fs)) ++ g f.choices.items ∷ []
-mapped_take g fs i f low is = ap (map g) (ways_take fs i f low is) ∙ map-append g (choice_lists (take i fs)) (f.choices.items ∷ [])
+    → map g (choice_lists (take (i + 1) fs)) ≡ map g (choice_lists (take i fs)) ++ g f.choices ∷ []
+mapped_take g fs i f low is = ap (map g) (ways_take fs i f low is) ∙ map-append g (choice_lists (take i fs)) (f.choices ∷ [])
 
 module _ (ws all us then : List (List Choice)) (mid new : List ListedOutcome) (one : ListedOutcome) (grows : ListGrows mid one new) (cs : List Choice)
-    (chosen : one.choices.items ≡ cs) (is : then ≡ us ++ cs ∷ []) where
-  more_is : (all ++ us) ++ one.choices.items ∷ [] ≡ all ++ then
-  more_is = append_assoc all us (one.choices.items ∷ []) ∙ ap (λ ds. all ++ (us ++ ds ∷ [])) chosen ∙ ap (λ vs. all ++ vs) (sym is)
+    (chosen : one.choices ≡ cs) (is : then ≡ us ++ cs ∷ []) where
+  more_is : (all ++ us) ++ one.choices ∷ [] ≡ all ++ then
+  more_is = append_assoc all us (one.choices ∷ []) ∙ ap (λ ds. all ++ (us ++ ds ∷ [])) chosen ∙ ap (λ vs. all ++ vs) (sym is)
 
-  new_ways : new ≡ mid ++ one ∷ [] → choice_lists new ≡ choice_lists mid ++ one.choices.items ∷ []
-  new_ways more = ap choice_lists more ∙ map-append (λ f. f.choices.items) mid (one ∷ [])
+  new_ways : new ≡ mid ++ one ∷ [] → choice_lists new ≡ choice_lists mid ++ one.choices ∷ []
+  new_ways more = ap choice_lists more ∙ map-append (λ f. f.choices) mid (one ∷ [])
 
   pub step_last : AreSomeOf (ws ++ choice_lists mid) (all ++ us) → AreSomeOf (ws ++ choice_lists new) (all ++ then)
   step_last h = subst (AreSomeOf (ws ++ choice_lists new)) more_is (by_kept grows.kept)
     where
-      by_kept : (new ≡ mid) ⊎ (new ≡ mid ++ one ∷ []) → AreSomeOf (ws ++ choice_lists new) ((all ++ us) ++ one.choices.items ∷ [])
+      by_kept : (new ≡ mid) ⊎ (new ≡ mid ++ one ∷ []) → AreSomeOf (ws ++ choice_lists new) ((all ++ us) ++ one.choices ∷ [])
       by_kept (inl same) =
-          subst (λ fs. AreSomeOf (ws ++ choice_lists fs) ((all ++ us) ++ one.choices.items ∷ [])) (sym same)
-          (some_kept (ws ++ choice_lists mid) (all ++ us) (one.choices.items ∷ []) h)
+          subst (λ fs. AreSomeOf (ws ++ choice_lists fs) ((all ++ us) ++ one.choices ∷ [])) (sym same)
+          (some_kept (ws ++ choice_lists mid) (all ++ us) (one.choices ∷ []) h)
       by_kept (inr more) =
-          subst (λ vs. AreSomeOf vs ((all ++ us) ++ one.choices.items ∷ [])) (append_assoc ws (choice_lists mid) (one.choices.items ∷ []) ∙ ap (λ vs. ws ++ vs) (sym (new_ways more)))
-          (some_more (ws ++ choice_lists mid) [] (all ++ us) one.choices.items (subst (λ vs. AreSomeOf vs (all ++ us)) (sym (append-nil (ws ++ choice_lists mid))) h))
+          subst (λ vs. AreSomeOf vs ((all ++ us) ++ one.choices ∷ [])) (append_assoc ws (choice_lists mid) (one.choices ∷ []) ∙ ap (λ vs. ws ++ vs) (sym (new_ways more)))
+          (some_more (ws ++ choice_lists mid) [] (all ++ us) one.choices (subst (λ vs. AreSomeOf vs (all ++ us)) (sym (append-nil (ws ++ choice_lists mid))) h))
 
   pub step_first : AreSomeOf (choice_lists mid ++ ws) (all ++ us) → AreSomeOf (choice_lists new ++ ws) (all ++ then)
   step_first h = subst (AreSomeOf (choice_lists new ++ ws)) more_is (by_kept grows.kept)
     where
-      by_kept : (new ≡ mid) ⊎ (new ≡ mid ++ one ∷ []) → AreSomeOf (choice_lists new ++ ws) ((all ++ us) ++ one.choices.items ∷ [])
+      by_kept : (new ≡ mid) ⊎ (new ≡ mid ++ one ∷ []) → AreSomeOf (choice_lists new ++ ws) ((all ++ us) ++ one.choices ∷ [])
       by_kept (inl same) =
-          subst (λ fs. AreSomeOf (choice_lists fs ++ ws) ((all ++ us) ++ one.choices.items ∷ [])) (sym same)
-          (some_kept (choice_lists mid ++ ws) (all ++ us) (one.choices.items ∷ []) h)
+          subst (λ fs. AreSomeOf (choice_lists fs ++ ws) ((all ++ us) ++ one.choices ∷ [])) (sym same)
+          (some_kept (choice_lists mid ++ ws) (all ++ us) (one.choices ∷ []) h)
       by_kept (inr more) =
-          subst (λ vs. AreSomeOf vs ((all ++ us) ++ one.choices.items ∷ []))
-          (sym (append_assoc (choice_lists mid) (one.choices.items ∷ []) ws) ∙ ap (λ vs. vs ++ ws) (sym (new_ways more)))
-          (some_more (choice_lists mid) ws (all ++ us) one.choices.items h)
+          subst (λ vs. AreSomeOf vs ((all ++ us) ++ one.choices ∷ []))
+          (sym (append_assoc (choice_lists mid) (one.choices ∷ []) ws) ∙ ap (λ vs. vs ++ ws) (sym (new_ways more)))
+          (some_more (choice_lists mid) ws (all ++ us) one.choices h)
 
 -- nothing more, where one might be
 pub step_kept : (all us then : List (List Choice)) (mid new : List ListedOutcome) (cs : List Choice) → new ≡ mid → then ≡ us ++ cs ∷ []
@@ -134,11 +134,11 @@ joined_append (cs ∷ xs) ys right =
     ap (λ us. behind cs right ++ us) (joined_append xs ys right) ∙ sym (append_assoc (behind cs right) (all_joined xs right) (all_joined ys right))
 
 pub joined_take : (fs : List ListedOutcome) (right : List (List Choice)) (i : ℕ) (f : ListedOutcome) → i < length fs → f ≡ get_or fs i f
-    → all_joined (choice_lists (take (i + 1) fs)) right ≡ all_joined (choice_lists (take i fs)) right ++ behind f.choices.items right
+    → all_joined (choice_lists (take (i + 1) fs)) right ≡ all_joined (choice_lists (take i fs)) right ++ behind f.choices right
 joined_take fs right i f low is =
     ap (λ us. all_joined us right) (ways_take fs i f low is)
-    ∙ joined_append (choice_lists (take i fs)) (f.choices.items ∷ []) right
-    ∙ ap (λ us. all_joined (choice_lists (take i fs)) right ++ us) (append-nil (behind f.choices.items right))
+    ∙ joined_append (choice_lists (take i fs)) (f.choices ∷ []) right
+    ∙ ap (λ us. all_joined (choice_lists (take i fs)) right ++ us) (append-nil (behind f.choices right))
 
 module _ (P Q R : List Choice → Type 0) (both : (cs ds : List Choice) → P cs → Q ds → R (cs ++ ds)) where
   pub behind_each : (cs : List Choice) (ways : List (List Choice)) → P cs → Each Q ways → Each R (behind cs ways)

@@ -30,7 +30,7 @@ too_many_on X Y (Err again) e same f said = subst (IfTooMany Y) (sym same) (too_
 -- ---- how many there are
 
 pub ways_count : (fs : List ListedOutcome) → length (choice_lists fs) ≡ length fs
-ways_count fs = length-map fs (λ f. f.choices.items)
+ways_count fs = length-map fs (λ f. f.choices)
 
 -- one more, after the first of others
 crowd_next : (limit i n : ℕ) (mid old us : List (List Choice)) → length us ≡ i → i < n → AreSomeOf mid (old ++ us) → limit ≤ length mid → limit < length old + n
@@ -74,7 +74,7 @@ ways_of_first : (fs : List ListedOutcome) (i : ℕ) → choice_lists (take i fs)
 ways_of_first [] zero = refl
 ways_of_first [] (suc i) = refl
 ways_of_first (f ∷ fs) zero = refl
-ways_of_first (f ∷ fs) (suc i) = ap (λ us. f.choices.items ∷ us) (ways_of_first fs i)
+ways_of_first (f ∷ fs) (suc i) = ap (λ us. f.choices ∷ us) (ways_of_first fs i)
 
 pub crowd_joined : (limit : ℕ) (left right found : List ListedOutcome) (i : ℕ) (f : ListedOutcome) → i < length left → f ≡ get_or left i f
     → AreSomeOf (choice_lists found) (all_joined (choice_lists (take i left)) (choice_lists right)) → limit < length found + length right
@@ -84,8 +84,8 @@ crowd_joined limit left right found i f low is some more =
     omega (
       arith,
       ap length (joined_take left (choice_lists right) i f low is),
-      length-append (all_joined (choice_lists (take i left)) (choice_lists right)) (behind f.choices.items (choice_lists right)),
-      length-map (choice_lists right) (λ ds. f.choices.items ++ ds),
+      length-append (all_joined (choice_lists (take i left)) (choice_lists right)) (behind f.choices (choice_lists right)),
+      length-map (choice_lists right) (λ ds. f.choices ++ ds),
       ways_count right,
     ) in
     omega (

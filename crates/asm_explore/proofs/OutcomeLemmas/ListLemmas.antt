@@ -82,7 +82,7 @@ module _ (shape : Shape) (left : ListedOutcome) (right : List ListedOutcome) whe
   joined_all i old new past = subst (λ fs. IsJoined shape left fs old new) (take_all i right past)
 
   pub joined_more : (i : ℕ) (r : ListedOutcome) (old mid new : List ListedOutcome) (one : ListedOutcome) → i < length right → r ≡ get_or right i r
-      → one.choices.items ≡ left.choices.items ++ r.choices.items
+      → one.choices ≡ left.choices ++ r.choices
       → IsCounted (count_of shape) one.answer
       → ((x y : Result) → Shows shape left.answer x → Shows shape r.answer y → Shows shape one.answer (beside x y))
       → ListGrows mid one new → IsJoined shape left (take i right) old mid → IsJoined shape left (take (i + 1) right) old new
@@ -93,15 +93,15 @@ module _ (shape : Shape) (left : ListedOutcome) (right : List ListedOutcome) whe
     sound = λ o q here each h.
         let parts = each_take_more (IsSound shape q) right i r low is each in
         grows_each (IsSound shape (λ s. beside (o s) (q s))) mid new one grows (so_far.sound o q here parts.0 h)
-        (λ s taken. let halves = taken_both s one.choices.items left.choices.items r.choices.items chosen taken in
+        (λ s taken. let halves = taken_both s one.choices left.choices r.choices chosen taken in
         answers (o s) (q s) (here s halves.0) (parts.1 s halves.1));
     placed = λ p k here each h.
-        let parts = each_take_more (λ f. IsPlacedFrom p (k + 1) f.choices.items) right i r low is each in
-        grows_each (λ f. IsPlacedFrom p k f.choices.items) mid new one grows (so_far.placed p k here parts.0 h)
-        (subst (IsPlacedFrom p k) (sym chosen) (from_part p k left.choices.items r.choices.items here parts.1));
+        let parts = each_take_more (λ f. IsPlacedFrom p (k + 1) f.choices) right i r low is each in
+        grows_each (λ f. IsPlacedFrom p k f.choices) mid new one grows (so_far.placed p k here parts.0 h)
+        (subst (IsPlacedFrom p k) (sym chosen) (from_part p k left.choices r.choices here parts.1));
     chosen = λ ways h.
-        step_last [] ways (behind left.choices.items (choice_lists (take i right))) (behind left.choices.items (choice_lists (take (i + 1) right))) mid new one grows
-        (left.choices.items ++ r.choices.items) chosen (mapped_take (λ ds. left.choices.items ++ ds) right i r low is) (so_far.chosen ways h);
+        step_last [] ways (behind left.choices (choice_lists (take i right))) (behind left.choices (choice_lists (take (i + 1) right))) mid new one grows
+        (left.choices ++ r.choices) chosen (mapped_take (λ ds. left.choices ++ ds) right i r low is) (so_far.chosen ways h);
   }
     where
       next : (x y : Result) → Shows shape left.answer x → Shown shape (take i right) y ⊎ Shows shape r.answer y → Shown shape new (beside x y)
@@ -130,7 +130,7 @@ module _ (shape : Shape) (left right : List ListedOutcome) where
         let parts = each_take_more (IsSound shape o) left i f low is h in
         joined.sound o q parts.1 g (so_far.sound o q parts.0 g);
     placed = λ p k h g.
-        let parts = each_take_more (λ f. LieBelow (at p k) f.choices.items) left i f low is h in
+        let parts = each_take_more (λ f. LieBelow (at p k) f.choices) left i f low is h in
         joined.placed p k parts.1 g (so_far.placed p k parts.0 g);
     chosen = subst (AreSomeOf (choice_lists new)) (sym (joined_take left (choice_lists right) i f low is))
         (joined.chosen (all_joined (choice_lists (take i left)) (choice_lists right)) so_far.chosen);
@@ -172,7 +172,7 @@ module _ (p : List ℕ) (k : ℕ) (part : List ListedOutcome) where
   picked_all i old new past = subst (λ fs. IsPicked p k fs old new) (take_all i part past)
 
   pub picked_more : (i : ℕ) (f : ListedOutcome) (old mid new : List ListedOutcome) (one : ListedOutcome) → i < length part → f ≡ get_or part i f
-      → one.choices.items ≡ f.choices.items ++ record { path = p; number = k } ∷ []
+      → one.choices ≡ f.choices ++ record { path = p; number = k } ∷ []
       → ((n : ℕ) → IsCounted n f.answer → IsCounted n one.answer) → ((shape : Shape) (r : Result) → Shows shape f.answer r → Shows shape one.answer r)
       → ListGrows mid one new → IsPicked p k (take i part) old mid → IsPicked p k (take (i + 1) part) old new
   picked_more i f old mid new one low is chosen counts shows grows so_far = record {
@@ -184,14 +184,14 @@ module _ (p : List ℕ) (k : ℕ) (part : List ListedOutcome) where
     sound = λ shape o q each alike h.
         let parts = each_take_more (IsSound shape o) part i f low is each in
         grows_each (IsSound shape q) mid new one grows (so_far.sound shape o q parts.0 alike h)
-        (λ s taken. let halves = taken_both s one.choices.items f.choices.items (record { path = p; number = k } ∷ []) chosen taken in
+        (λ s taken. let halves = taken_both s one.choices f.choices (record { path = p; number = k } ∷ []) chosen taken in
         subst (Shows shape one.answer) (alike s halves.1.0) (shows shape (o s) (parts.1 s halves.0)));
     placed = λ each h.
-        let parts = each_take_more (λ f. LieBelow (at p 0) f.choices.items) part i f low is each in
-        grows_each (λ f. LieBelow p f.choices.items) mid new one grows (so_far.placed parts.0 h)
-        (subst (LieBelow p) (sym chosen) (placed_chosen p k f.choices.items parts.1));
+        let parts = each_take_more (λ f. LieBelow (at p 0) f.choices) part i f low is each in
+        grows_each (λ f. LieBelow p f.choices) mid new one grows (so_far.placed parts.0 h)
+        (subst (LieBelow p) (sym chosen) (placed_chosen p k f.choices parts.1));
     chosen = step_last [] (choice_lists old) (with_choice p k (choice_lists (take i part))) (with_choice p k (choice_lists (take (i + 1) part))) mid new one grows
-        (f.choices.items ++ record { path = p; number = k } ∷ []) chosen (mapped_take (λ cs. cs ++ record { path = p; number = k } ∷ []) part i f low is) so_far.chosen;
+        (f.choices ++ record { path = p; number = k } ∷ []) chosen (mapped_take (λ cs. cs ++ record { path = p; number = k } ∷ []) part i f low is) so_far.chosen;
   }
     where
       next : (shape : Shape) (r : Result) → Shown shape (take i part) r ⊎ Shows shape f.answer r → Shown shape new r
@@ -209,7 +209,7 @@ shows_ordered shape a set new r is stands h = by_result r (subst (λ x. Shows sh
 
 -- the one outcome of a candidate
 pub picked_one : (p : List ℕ) (k : ℕ) (f : ListedOutcome) (old new : List ListedOutcome) (one : ListedOutcome)
-    → one.choices.items ≡ f.choices.items ++ record { path = p; number = k } ∷ []
+    → one.choices ≡ f.choices ++ record { path = p; number = k } ∷ []
     → ((n : ℕ) → IsCounted n f.answer → IsCounted n one.answer) → ((shape : Shape) (r : Result) → Shows shape f.answer r → Shows shape one.answer r)
     → ListGrows old one new → IsPicked p k (f ∷ []) old new
 picked_one p k f old new one chosen counts shows grows =
@@ -217,14 +217,14 @@ picked_one p k f old new one chosen counts shows grows =
 
 -- one outcome beside one other
 module _ (shape : Shape) (left right one : ListedOutcome) where
-  pub both_one : one.choices.items ≡ left.choices.items ++ right.choices.items → IsCounted (count_of shape) one.answer
+  pub both_one : one.choices ≡ left.choices ++ right.choices → IsCounted (count_of shape) one.answer
       → ((x y : Result) → Shows shape left.answer x → Shows shape right.answer y → Shows shape one.answer (beside x y))
       → (o q : Situation → Result) → Lists shape o (left ∷ []) → Lists shape q (right ∷ []) → Lists shape (λ s. beside (o s) (q s)) (one ∷ [])
   both_one chosen counts answers o q h g = record {
     counted = (counts, tt);
     complete = λ s. inl (answers (o s) (q s) (only (o s) left (h.complete s)) (only (q s) right (g.complete s)));
     sound = (
-      (λ s taken. let halves = taken_both s one.choices.items left.choices.items right.choices.items chosen taken in
+      (λ s taken. let halves = taken_both s one.choices left.choices right.choices chosen taken in
           answers (o s) (q s) (h.sound.0 s halves.0) (g.sound.0 s halves.1)),
       tt,
     );

@@ -56,13 +56,13 @@ module _ (limit : ℕ) (R : Path → List Choice → Type 0) where
       (picked_differ p k (choice_lists old) (choice_lists part) differ (have_ways (TakesBefore p k) old before) part_differs)
       (each_picked P (R p) p k own part old h g)
 
-  pub sorted_refuses : (P : List Choice → Type 0) (p : Path) (k : ℕ) (one : ListedOutcome) → ((ds : List Choice) → P ds → R p (one.choices.items ++ ds)) → (part : List ListedOutcome) (sorted : SequenceOutcomes)
+  pub sorted_refuses : (P : List Choice → Type 0) (p : Path) (k : ℕ) (one : ListedOutcome) → ((ds : List Choice) → P ds → R p (one.choices ++ ds)) → (part : List ListedOutcome) (sorted : SequenceOutcomes)
       → AllDiffer p (one ∷ []) sorted → AreDifferent (at p k) (choice_lists part) → HaveChoices P part → BothHave (R p) sorted
-      → (first others : ℕ) (r : OutcomesError) → NamesRule p first others r → IsOverLimit limit (both_ways sorted ++ behind one.choices.items (choice_lists part)) r → Refuses limit R r
+      → (first others : ℕ) (r : OutcomesError) → NamesRule p first others r → IsOverLimit limit (both_ways sorted ++ behind one.choices (choice_lists part)) r → Refuses limit R r
   sorted_refuses P p k one own part sorted differ part_differs h both first others r names crowded =
-      refuses_many p (both_ways sorted ++ behind one.choices.items (choice_lists part)) first others r names crowded
-      (replaced_differ p k one.choices.items (both_ways sorted) (choice_lists part) differ part_differs)
-      (each_sorted P (R p) one.choices.items own part h sorted both)
+      refuses_many p (both_ways sorted ++ behind one.choices (choice_lists part)) first others r names crowded
+      (replaced_differ p k one.choices (both_ways sorted) (choice_lists part) differ part_differs)
+      (each_sorted P (R p) one.choices own part h sorted both)
 
   pub closed_refuses : (p : Path) (sorted : SequenceOutcomes) → AllDiffer p [] sorted → BothHave (R p) sorted
       → (first others : ℕ) (r : OutcomesError) → NamesRule p first others r → IsOverLimit limit (both_ways sorted) r → Refuses limit R r
@@ -105,12 +105,12 @@ module _ (p : Path) where
   -- ---- one after the other
 
   pub sorted_differs : (k : ℕ) (one : ListedOutcome) (front part : List ListedOutcome) (old new : SequenceOutcomes) → AllDiffer p (one ∷ front) old → AreDifferent (at p k) (choice_lists part)
-      → AreSomeOf (both_ways new) (both_ways old ++ behind one.choices.items (choice_lists part)) → AllDiffer p front new
+      → AreSomeOf (both_ways new) (both_ways old ++ behind one.choices (choice_lists part)) → AllDiffer p front new
   sorted_differs k one front part old new h g some =
-      different_some p (choice_lists front ++ both_ways new) (choice_lists front ++ (both_ways old ++ behind one.choices.items (choice_lists part)))
-      (some_behind (choice_lists front) (both_ways new) (both_ways old ++ behind one.choices.items (choice_lists part)) some)
-      (subst (AreDifferent p) (append_assoc (choice_lists front) (both_ways old) (behind one.choices.items (choice_lists part)))
-      (replaced_differ p k one.choices.items (choice_lists front ++ both_ways old) (choice_lists part) h g))
+      different_some p (choice_lists front ++ both_ways new) (choice_lists front ++ (both_ways old ++ behind one.choices (choice_lists part)))
+      (some_behind (choice_lists front) (both_ways new) (both_ways old ++ behind one.choices (choice_lists part)) some)
+      (subst (AreDifferent p) (append_assoc (choice_lists front) (both_ways old) (behind one.choices (choice_lists part)))
+      (replaced_differ p k one.choices (choice_lists front ++ both_ways old) (choice_lists part) h g))
 
   -- if one doesn't go on
   pub sorted_without : (one : ListedOutcome) (front : List ListedOutcome) (sorted : SequenceOutcomes) → AllDiffer p (one ∷ front) sorted → AllDiffer p front sorted
@@ -120,7 +120,7 @@ module _ (p : Path) where
   pub front_one : (one : ListedOutcome) (front : List ListedOutcome) (sorted : SequenceOutcomes) → AllDiffer p (one ∷ front) sorted → AllDiffer p (one ∷ []) sorted
   front_one one front sorted h =
       let parts = different_parts p (choice_lists (one ∷ front)) (both_ways sorted) h in
-      different_append p (one.choices.items ∷ []) (both_ways sorted) (tt, tt) parts.1 (parts.2.0, tt)
+      different_append p (one.choices ∷ []) (both_ways sorted) (tt, tt) parts.1 (parts.2.0, tt)
 
   -- none has gone on
   pub front_begin : (done front : List ListedOutcome) (sorted : SequenceOutcomes) → sorted.done.items ≡ done → sorted.more.items ≡ [] → AreDifferent p (choice_lists done ++ choice_lists front)

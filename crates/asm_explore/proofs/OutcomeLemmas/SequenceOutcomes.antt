@@ -163,7 +163,7 @@ module _ (shape : Shape) (turns : Bool) (so_far : SummaryRanges) (choices : List
 
   -- when the sequence ends with the next one, or goes on with it
   module _ (i : ℕ) (q : ListedOutcome) (old mid new : SequenceOutcomes) (low : i < length part) (is : q ≡ get_or part i q) (so_on : SortsAll shape turns so_far choices (take i part) old mid)
-      (joined : ListedOutcome) (chosen : joined.choices.items ≡ choices ++ q.choices.items) (counted : IsCounted (count_of shape) joined.answer) where
+      (joined : ListedOutcome) (chosen : joined.choices ≡ choices ++ q.choices) (counted : IsCounted (count_of shape) joined.answer) where
     in_last : IsIn q (take (i + 1) part)
     in_last = subst (IsIn q) (sym (take_more part i q low)) (any_last (λ g. g ≡ q) (take i part) (get_or part i q ∷ []) (inl (sym is)))
 
@@ -190,7 +190,7 @@ module _ (shape : Shape) (turns : Bool) (so_far : SummaryRanges) (choices : List
           let parts = each_take_more (IsSound shape o) part i q low is each in
           grows_each (IsSound shape total) mid.done.items new.done.items joined grows (so_on.done_sound total o hyp parts.0 h)
           (λ s taken.
-          let halves = taken_both s joined.choices.items choices q.choices.items chosen taken in
+          let halves = taken_both s joined.choices choices q.choices chosen taken in
           let on = hyp s halves.0 in
           subst (Shows shape joined.answer) (sym on.3) (last.shows on.0 (o s) on.1 on.2 (parts.1 s halves.1)));
       more_sound = λ A total left o hyp each h.
@@ -198,19 +198,19 @@ module _ (shape : Shape) (turns : Bool) (so_far : SummaryRanges) (choices : List
           subst (Each (IsOn shape A total left)) (sym same) (so_on.more_sound A total left o hyp parts.0 h);
       more_from = subst (Each (λ f. IsIn f old.more.items ⊎ ComesOf shape turns so_far choices (take (i + 1) part) f)) (sym same) from_before;
       placed = λ p k here each h.
-          let parts = each_take_more (λ f. LieBelow (at p k) f.choices.items) part i q low is each in
+          let parts = each_take_more (λ f. LieBelow (at p k) f.choices) part i q low is each in
           let both = so_on.placed p k here parts.0 h in (
-            grows_each (λ f. IsPlacedBefore p (k + 1) f.choices.items) mid.done.items new.done.items joined grows both.0
-                (subst (IsPlacedBefore p (k + 1)) (sym chosen) (before_part p k choices q.choices.items here parts.1)),
+            grows_each (λ f. IsPlacedBefore p (k + 1) f.choices) mid.done.items new.done.items joined grows both.0
+                (subst (IsPlacedBefore p (k + 1)) (sym chosen) (before_part p k choices q.choices here parts.1)),
             subst (HaveChoices (IsPlacedBefore p (k + 1))) (sym same) both.1,
           );
       chosen = subst (λ fs. AreSomeOf (choice_lists new.done.items ++ choice_lists fs) (both_ways old ++ behind choices (choice_lists (take (i + 1) part)))) (sym same)
           (step_first (choice_lists mid.more.items) (both_ways old) (behind choices (choice_lists (take i part))) (behind choices (choice_lists (take (i + 1) part)))
-          mid.done.items new.done.items joined grows (choices ++ q.choices.items) chosen (mapped_take (λ ds. choices ++ ds) part i q low is) so_on.chosen);
+          mid.done.items new.done.items joined grows (choices ++ q.choices) chosen (mapped_take (λ ds. choices ++ ds) part i q low is) so_on.chosen);
       done_chosen = step_last [] (choice_lists old.done.items) (behind choices (choice_lists (take i part))) (behind choices (choice_lists (take (i + 1) part)))
-          mid.done.items new.done.items joined grows (choices ++ q.choices.items) chosen (mapped_take (λ ds. choices ++ ds) part i q low is) so_on.done_chosen;
+          mid.done.items new.done.items joined grows (choices ++ q.choices) chosen (mapped_take (λ ds. choices ++ ds) part i q low is) so_on.done_chosen;
       more_chosen = step_kept (choice_lists old.more.items) (behind choices (choice_lists (take i part))) (behind choices (choice_lists (take (i + 1) part)))
-          mid.more.items new.more.items (choices ++ q.choices.items) same (mapped_take (λ ds. choices ++ ds) part i q low is) so_on.more_chosen;
+          mid.more.items new.more.items (choices ++ q.choices) same (mapped_take (λ ds. choices ++ ds) part i q low is) so_on.more_chosen;
     }
       where
         older : (U : UpdateSet) (x : Result) (rest : UpdateSet → Result)
@@ -238,26 +238,26 @@ module _ (shape : Shape) (turns : Bool) (so_far : SummaryRanges) (choices : List
           let parts = each_take_more (IsSound shape o) part i q low is each in
           grows_each (IsOn shape A total left) mid.more.items new.more.items joined grows (so_on.more_sound A total left o hyp parts.0 h)
           (λ s taken.
-          let halves = taken_both s joined.choices.items choices q.choices.items chosen taken in
+          let halves = taken_both s joined.choices choices q.choices chosen taken in
           let here = hyp s halves.0 in
           let goes = on.shows here.0 (o s) here.1 (parts.1 s halves.1) in
           (merge here.0 goes.0, goes.3, here.2 goes.0 goes.1 goes.2));
       more_from = grows_each (λ f. IsIn f old.more.items ⊎ ComesOf shape turns so_far choices (take (i + 1) part) f) mid.more.items new.more.items joined grows from_before
           (inr (record { one = q; among = in_last; chosen = chosen; goes_on = on }));
       placed = λ p k here each h.
-          let parts = each_take_more (λ f. LieBelow (at p k) f.choices.items) part i q low is each in
+          let parts = each_take_more (λ f. LieBelow (at p k) f.choices) part i q low is each in
           let both = so_on.placed p k here parts.0 h in (
             subst (HaveChoices (IsPlacedBefore p (k + 1))) (sym same) both.0,
-            grows_each (λ f. IsPlacedBefore p (k + 1) f.choices.items) mid.more.items new.more.items joined grows both.1
-                (subst (IsPlacedBefore p (k + 1)) (sym chosen) (before_part p k choices q.choices.items here parts.1)),
+            grows_each (λ f. IsPlacedBefore p (k + 1) f.choices) mid.more.items new.more.items joined grows both.1
+                (subst (IsPlacedBefore p (k + 1)) (sym chosen) (before_part p k choices q.choices here parts.1)),
           );
       chosen = subst (λ fs. AreSomeOf (choice_lists fs ++ choice_lists new.more.items) (both_ways old ++ behind choices (choice_lists (take (i + 1) part)))) (sym same)
           (step_last (choice_lists mid.done.items) (both_ways old) (behind choices (choice_lists (take i part))) (behind choices (choice_lists (take (i + 1) part)))
-          mid.more.items new.more.items joined grows (choices ++ q.choices.items) chosen (mapped_take (λ ds. choices ++ ds) part i q low is) so_on.chosen);
+          mid.more.items new.more.items joined grows (choices ++ q.choices) chosen (mapped_take (λ ds. choices ++ ds) part i q low is) so_on.chosen);
       done_chosen = step_kept (choice_lists old.done.items) (behind choices (choice_lists (take i part))) (behind choices (choice_lists (take (i + 1) part)))
-          mid.done.items new.done.items (choices ++ q.choices.items) same (mapped_take (λ ds. choices ++ ds) part i q low is) so_on.done_chosen;
+          mid.done.items new.done.items (choices ++ q.choices) same (mapped_take (λ ds. choices ++ ds) part i q low is) so_on.done_chosen;
       more_chosen = step_last [] (choice_lists old.more.items) (behind choices (choice_lists (take i part))) (behind choices (choice_lists (take (i + 1) part)))
-          mid.more.items new.more.items joined grows (choices ++ q.choices.items) chosen (mapped_take (λ ds. choices ++ ds) part i q low is) so_on.more_chosen;
+          mid.more.items new.more.items joined grows (choices ++ q.choices) chosen (mapped_take (λ ds. choices ++ ds) part i q low is) so_on.more_chosen;
     }
       where
         older : (U : UpdateSet) (x : Result) (rest : UpdateSet → Result)
@@ -304,7 +304,7 @@ module _ (shape : Shape) (turns : Bool) (A : State) (here : Situation → State 
 
   pub next_one : (f : ListedOutcome) (so_far : Updates) (part : List ListedOutcome) (old new : SequenceOutcomes) → f.answer ≡ answer.Set so_far
       → (state : State) → ((U : UpdateSet) → Stands shape so_far.set U → IsConsistent U → state ≡ fire A U)
-      → Lists shape (λ s. here s state) part → SortsAll shape turns so_far.set f.choices.items part old new → NextOne shape turns A here f old new
+      → Lists shape (λ s. here s state) part → SortsAll shape turns so_far.set f.choices part old new → NextOne shape turns A here f old new
   next_one f so_far part old new is state fired lists sorts = record {
     done_counted = sorts.done_counted;
     more_counted = sorts.more_counted;
@@ -421,7 +421,7 @@ module _ (more : List ListedOutcome) where
   adds_none old = record { counted = λ n h g. h; older = λ shape r h. h; shown = λ shape r h. absurd h; sound = λ shape o h g. h; placed = λ q h g. h; chosen = some_nil (choice_lists old) }
 
   pub adds_more : (i : ℕ) (f one : ListedOutcome) (old mid new : List ListedOutcome) → i < length more → f ≡ get_or more i f
-      → one.choices.items ≡ f.choices.items → ((n : ℕ) → IsCounted n f.answer → IsCounted n one.answer) → IsShownBy f.answer one.answer → ListGrows mid one new → AddsOutcome old (take i more) mid → AddsOutcome old (take (i + 1) more) new
+      → one.choices ≡ f.choices → ((n : ℕ) → IsCounted n f.answer → IsCounted n one.answer) → IsShownBy f.answer one.answer → ListGrows mid one new → AddsOutcome old (take i more) mid → AddsOutcome old (take (i + 1) more) new
   adds_more i f one old mid new low is chosen counts shows grows so_on = record {
     counted = λ n h g.
         let parts = each_take_more (λ f. IsCounted n f.answer) more i f low is g in
@@ -433,9 +433,9 @@ module _ (more : List ListedOutcome) where
         grows_each (IsSound shape o) mid new one grows (so_on.sound shape o h parts.0)
         (λ s taken. shows shape (o s) (parts.1 s (subst (AreTaken s) chosen taken)));
     placed = λ q h g.
-        let parts = each_take_more (λ f. LieBelow q f.choices.items) more i f low is g in
-        grows_each (λ f. LieBelow q f.choices.items) mid new one grows (so_on.placed q h parts.0) (subst (LieBelow q) (sym chosen) parts.1);
-    chosen = step_last [] (choice_lists old) (choice_lists (take i more)) (choice_lists (take (i + 1) more)) mid new one grows f.choices.items chosen (ways_take more i f low is) so_on.chosen;
+        let parts = each_take_more (λ f. LieBelow q f.choices) more i f low is g in
+        grows_each (λ f. LieBelow q f.choices) mid new one grows (so_on.placed q h parts.0) (subst (LieBelow q) (sym chosen) parts.1);
+    chosen = step_last [] (choice_lists old) (choice_lists (take i more)) (choice_lists (take (i + 1) more)) mid new one grows f.choices chosen (ways_take more i f low is) so_on.chosen;
   }
     where
       next : (shape : Shape) (r : Result) → Shown shape (take i more) r ⊎ Shows shape f.answer r → Shown shape new r
@@ -470,19 +470,19 @@ module _ (p : Path) (more : List ListedOutcome) where
   exhausts_none old = record { counted = λ n h. h; older = λ shape r h. h; shown = λ shape r h. absurd h; sound = λ shape o h g. g; placed = λ q h g. h; chosen = some_nil (choice_lists old) }
 
   pub exhausts_more : (i : ℕ) (f one : ListedOutcome) (old mid new : List ListedOutcome) → i < length more → f ≡ get_or more i f
-      → one.choices.items ≡ f.choices.items → one.answer ≡ answer.Exhausted p → ListGrows mid one new → Exhausts p old (take i more) mid → Exhausts p old (take (i + 1) more) new
+      → one.choices ≡ f.choices → one.answer ≡ answer.Exhausted p → ListGrows mid one new → Exhausts p old (take i more) mid → Exhausts p old (take (i + 1) more) new
   exhausts_more i f one old mid new low is chosen same grows so_on = record {
     counted = λ n h. grows_each (λ f. IsCounted n f.answer) mid new one grows (so_on.counted n h) (subst (IsCounted n) (sym same) tt);
     older = λ shape r h. grows_any (λ f. Shows shape f.answer r) mid new one grows (so_on.older shape r h);
     shown = λ shape r h. next shape r (any_take_more (λ f. Shows shape f.answer r) more i f low is h);
     sound = λ shape o h g.
-        let parts = each_take_more (λ f. (s : Situation) → AreTaken s f.choices.items → o s ≡ Exhausted p) more i f low is h in
+        let parts = each_take_more (λ f. (s : Situation) → AreTaken s f.choices → o s ≡ Exhausted p) more i f low is h in
         grows_each (IsSound shape o) mid new one grows (so_on.sound shape o parts.0 g)
         (λ s taken. subst (λ r. Shows shape one.answer r) (sym (parts.1 s (subst (AreTaken s) chosen taken))) (at_end shape));
     placed = λ q h g.
-        let parts = each_take_more (λ f. LieBelow q f.choices.items) more i f low is g in
-        grows_each (λ f. LieBelow q f.choices.items) mid new one grows (so_on.placed q h parts.0) (subst (LieBelow q) (sym chosen) parts.1);
-    chosen = step_last [] (choice_lists old) (choice_lists (take i more)) (choice_lists (take (i + 1) more)) mid new one grows f.choices.items chosen (ways_take more i f low is) so_on.chosen;
+        let parts = each_take_more (λ f. LieBelow q f.choices) more i f low is g in
+        grows_each (λ f. LieBelow q f.choices) mid new one grows (so_on.placed q h parts.0) (subst (LieBelow q) (sym chosen) parts.1);
+    chosen = step_last [] (choice_lists old) (choice_lists (take i more)) (choice_lists (take (i + 1) more)) mid new one grows f.choices chosen (ways_take more i f low is) so_on.chosen;
   }
     where
       at_end : (shape : Shape) → Shows shape one.answer (Exhausted p)
@@ -501,7 +501,7 @@ all_exhausted shape A total left p stops old more new under ends = record {
   counted = ends.counted (count_of shape) under.done_counted;
   complete = λ s. by_place s (under.complete s);
   sound = ends.sound shape total
-      (each_weaker (IsOn shape A total left) (λ f. (s : Situation) → AreTaken s f.choices.items → total s ≡ Exhausted p) (λ f on s taken. let here = on s taken in whole s here.0 here.2) more under.front_sound)
+      (each_weaker (IsOn shape A total left) (λ f. (s : Situation) → AreTaken s f.choices → total s ≡ Exhausted p) (λ f on s taken. let here = on s taken in whole s here.0 here.2) more under.front_sound)
       under.done_sound;
 }
   where

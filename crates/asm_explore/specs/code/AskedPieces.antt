@@ -30,7 +30,8 @@ use Rattle.asm_eval.specs.declared.frame.Frame.{Frame}
 use Rattle.asm_eval.specs.declared.piece.Piece.{Piece}
 use Rattle.asm_eval.specs.declared.evaluation.Evaluation.{Evaluation}
 use Rattle.asm_explore.specs.declared.choices.choice_point.ChoicePoint.{ChoicePoint}
-use Rattle.asm_explore.specs.ChoicePoints.{Asking, asking_parts, asks, order_asks, turns_ask}
+use Rattle.asm_explore.specs.ChoicePoints.{Asking}
+use Rattle.asm_explore.specs.code.AskedRules.{asks, order_asks, turns_ask}
 use Rattle.asm_explore.specs.RunChoices.{asked_said}
 
 abbrev pub all_said : List ChoicePoint → List Asking
@@ -71,12 +72,12 @@ module _ {P : Type 0} {picks : Ghosts P} (evaluation : Evaluation P picks) where
   -- rules in order, from number k on
   abbrev pub order_asked : Frame → Path → ℕ → RuleCodes → State → List Asking
   order_asked f p k Rs A =
-      order_asks (asking_parts (evaluation_shape evaluation) evaluation.turns (evaluation_choices evaluation) Rs (readings_of (evaluation_shape evaluation) f) (frame_locations (evaluation_shape evaluation) f)) k A p
+      order_asks (evaluation_shape evaluation) evaluation.turns (evaluation_choices evaluation) Rs (readings_of (evaluation_shape evaluation) f) (frame_locations (evaluation_shape evaluation) f) k A p
 
   -- turns from number t on, `left` of them
   abbrev pub turns_asked : Frame → Path → (left t : ℕ) → RuleCode → State → List Asking
   turns_asked f p left t R A =
-      turns_ask (record { yields = λ A p. (rule_in evaluation f p R A).result; asks = λ A p. asks_at f p R A }) left t A p
+      turns_ask (evaluation_shape evaluation) evaluation.turns (evaluation_choices evaluation) R (readings_of (evaluation_shape evaluation) f) (frame_locations (evaluation_shape evaluation) f) left t A p
 
   -- what kind of set a part yields, which is joined to the set so far; or there is none if it is
   -- exhausted

@@ -25,4 +25,4 @@ pub record ChoiceLaws : Type 0 where
   pub sound : (specification : Specification) (rank : Name → ℕ) (turns : ℕ) (shape : Shape) (A : State) (fs : List ListedOutcome)
       → IsRanked specification.program rank → CallsBelow specification.program rank nesting specification.main
       → Lists shape (steps_from specification turns A) fs
-      → Each (λ f. (s : Situation) → AreTaken s f.choices.items → (r : Result) × MayYield specification turns A r × Shows shape f.answer r) fs
+      → Each (λ f. (s : Situation) → AreTaken s f.choices → (r : Result) × MayYield specification turns A r × Shows shape f.answer r) fs

@@ -10,7 +10,7 @@ use Rattle.asm_explore.specs.declared.outcomes.listed_outcome.Choice.{Choice}
 use Rattle.asm_explore.specs.declared.outcomes.listed_outcome.ListedOutcome.{ListedOutcome}
 
 abbrev pub choice_lists : List ListedOutcome → List (List Choice)
-choice_lists fs = map (λ f. f.choices.items) fs
+choice_lists fs = map (λ f. f.choices) fs
 
 abbrev pub AreSomeOf : {X : Type 0} → List X → List X → Type 0
 AreSomeOf [] ys = Unit {0}

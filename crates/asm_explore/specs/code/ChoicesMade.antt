@@ -8,8 +8,6 @@
 --                                             locations ls, if they stand for any
 --     made_in shape turns P A s   those that P makes in a situation with no name bound, from the
 --                                 top on
---     AreMade makes cs        each situation that takes these choices makes them
---     IsWay p makes cs        so it is, and each of them lies at the path p, at one of its own
 use Rattle.std.specs.Prelude.{ℕ, zero, suc, ◌%◌, ◌++◌, Bool, cond, not, ◌||◌, List, [], ◌∷◌, None, slice_index_or, length}
 use Rattle.asm_state.specs.Location.{State}
 use Rattle.asm_state.specs.Signature.{Shape}
@@ -22,9 +20,8 @@ use Rattle.asm_code.specs.code.Readings.{always, reading, universe_at}
 use Rattle.asm_code.specs.code.RuleMeaning.{Locations, meaning, passes, passing, named_readings, optional_target_location, result_readings, result_locations}
 use Rattle.asm_code.specs.code.RuleTree.{RuleCode, Skip, Assign, Par, Seq, If, Let, Forall, Choose, Iterate, Call, RuleCodes, no_rules, rule_then}
 use Rattle.asm_explore.specs.declared.outcomes.listed_outcome.Choice.{Choice}
-use Rattle.asm_explore.specs.code.OverLimit.{IsAmong}
-use Rattle.asm_explore.specs.code.OutcomeLists.{Situation, picked, Each, AreTaken}
-use Rattle.asm_explore.specs.code.ChoicePaths.{LieBelow}
+pub use Rattle.asm_explore.specs.code.OverLimit.{AreMade, IsWay}
+use Rattle.asm_explore.specs.code.OutcomeLists.{Situation, picked}
 
 abbrev pub Making : Type 0
 Making = State → Path → List Choice
@@ -97,10 +94,3 @@ module _ (shape : Shape) (turns : ℕ) (chosen : Path → ℕ) where
 
 abbrev pub made_in : Shape → (turns : ℕ) → RuleCode → State → Situation → List Choice
 made_in shape turns P A s = made shape turns (picked s) P [] [] A []
-
-abbrev pub AreMade : (makes : Situation → List Choice) → List Choice → Type 0
-AreMade makes cs = (s : Situation) → AreTaken s cs → Each (λ c. IsAmong c (makes s)) cs
-
-pub record IsWay (p : Path) (makes : Situation → List Choice) (cs : List Choice) : Type 0 where
-  pub placed : LieBelow p cs
-  pub made : AreMade makes cs

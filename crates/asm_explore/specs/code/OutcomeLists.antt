@@ -58,11 +58,11 @@ abbrev pub AreCounted : ℕ → List ListedOutcome → Type 0
 AreCounted count fs = Each (λ f. IsCounted count f.answer) fs
 
 abbrev pub HaveChoices : (List Choice → Type 0) → List ListedOutcome → Type 0
-HaveChoices P fs = Each (λ f. P f.choices.items) fs
+HaveChoices P fs = Each (λ f. P f.choices) fs
 
 -- what is found in each situation that makes the choices
 abbrev pub IsSound : Shape → (Situation → Result) → ListedOutcome → Type 0
-IsSound shape o f = (s : Situation) → AreTaken s f.choices.items → Shows shape f.answer (o s)
+IsSound shape o f = (s : Situation) → AreTaken s f.choices → Shows shape f.answer (o s)
 
 pub record Lists (shape : Shape) (o : Situation → Result) (fs : List ListedOutcome) : Type 0 where
   pub counted : AreCounted (count_of shape) fs
@@ -81,9 +81,9 @@ pub record IsJoined (shape : Shape) (left : ListedOutcome) (right old new : List
   pub shown : (x y : Result) → Shows shape left.answer x → Shown shape right y → Shown shape new (beside x y)
   pub sound : (o q : Situation → Result) → IsSound shape o left → Each (IsSound shape q) right
       → Each (IsSound shape (λ s. beside (o s) (q s))) old → Each (IsSound shape (λ s. beside (o s) (q s))) new
-  pub placed : (p : Path) (k : ℕ) → LieBelow (at p k) left.choices.items → HaveChoices (IsPlacedFrom p (k + 1)) right
+  pub placed : (p : Path) (k : ℕ) → LieBelow (at p k) left.choices → HaveChoices (IsPlacedFrom p (k + 1)) right
       → HaveChoices (IsPlacedFrom p k) old → HaveChoices (IsPlacedFrom p k) new
-  pub chosen : (ways : List (List Choice)) → AreSomeOf (choice_lists old) ways → AreSomeOf (choice_lists new) (ways ++ behind left.choices.items (choice_lists right))
+  pub chosen : (ways : List (List Choice)) → AreSomeOf (choice_lists old) ways → AreSomeOf (choice_lists new) (ways ++ behind left.choices (choice_lists right))
 
 -- a list with the outcomes of a part, each with one more choice
 pub record IsPicked (p : Path) (k : ℕ) (part old new : List ListedOutcome) : Type 0 where

@@ -12,6 +12,9 @@
 --     AreMany limit p P                 there are more lists of choices than the limit says, each
 --                                       two differ, and this holds of each
 --     Refuses limit P refusal           if there are too many, this is so at the path that is named
+--     AreMade makes cs                  each situation that takes these choices makes them
+--     IsWay p makes cs                  so it is, and each of them lies at the path p, at one of its
+--                                       own
 use Rattle.std.specs.Prelude.{◌≡◌, ◌≢◌, ◌<◌, ℕ, List, [], ◌∷◌, length}
 use Rattle.asm_meaning.specs.Yields.{Path}
 use Rattle.asm_explore.specs.declared.outcomes.listed_outcome.Choice.{Choice}
@@ -20,7 +23,8 @@ use Rattle.asm_explore.specs.declared.outcomes.list_error.ListError.TheVariants 
 use Rattle.asm_explore.specs.declared.outcomes.outcomes_error.OutcomesError.{OutcomesError}
 use Rattle.asm_explore.specs.declared.outcomes.outcomes_error.OutcomesError.TheVariants as refusal
 use Rattle.asm_explore.specs.code.ListElements.{Each, AnyOf}
-use Rattle.asm_explore.specs.code.ChoicePaths.{LiesAt}
+use Rattle.asm_explore.specs.code.ChoicePaths.{LiesAt, LieBelow}
+use Rattle.asm_explore.specs.code.OutcomeLists.{Situation, AreTaken}
 
 abbrev pub NamesRule : Path → (first others : ℕ) → OutcomesError → Type 0
 NamesRule p first others refusal.Memory = Unit {0}
@@ -62,3 +66,10 @@ pub record AreMany (limit : ℕ) (p : Path) (P : List Choice → Type 0) : Type 
 abbrev pub Refuses : (limit : ℕ) → (Path → List Choice → Type 0) → OutcomesError → Type 0
 Refuses limit P refusal.Memory = Unit {0}
 Refuses limit P (refusal.TooMany crowd) = AreMany limit crowd.path (P crowd.path)
+
+abbrev pub AreMade : (makes : Situation → List Choice) → List Choice → Type 0
+AreMade makes cs = (s : Situation) → AreTaken s cs → Each (λ c. IsAmong c (makes s)) cs
+
+pub record IsWay (p : Path) (makes : Situation → List Choice) (cs : List Choice) : Type 0 where
+  pub placed : LieBelow p cs
+  pub made : AreMade makes cs

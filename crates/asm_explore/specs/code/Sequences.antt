@@ -54,7 +54,7 @@ ComesAfter A total left s U = IsConsistent U × (total s ≡ after U (left s (fi
 
 -- an outcome is a set of which this holds, in each situation that takes its choices
 abbrev pub HasSet : Shape → (holds : Situation → UpdateSet → Type 0) → ListedOutcome → Type 0
-HasSet shape holds f = (s : Situation) → AreTaken s f.choices.items → (U : UpdateSet) × Shows shape f.answer (Gives U) × holds s U
+HasSet shape holds f = (s : Situation) → AreTaken s f.choices → (U : UpdateSet) × Shows shape f.answer (Gives U) × holds s U
 
 abbrev pub IsOn : Shape → State → (total : Situation → Result) → (left : Situation → State → Result) → ListedOutcome → Type 0
 IsOn shape A total left = HasSet shape (ComesAfter A total left)
@@ -90,7 +90,7 @@ pub record SequenceGoesOn (shape : Shape) (turns : Bool) (so_far : SummaryRanges
 
 pub record Sorts (shape : Shape) (turns : Bool) (so_far : SummaryRanges) (choices : List Choice) (q : ListedOutcome) (old new : SequenceOutcomes) : Type 0 where
   pub joined : ListedOutcome
-  pub chosen : joined.choices.items ≡ choices ++ q.choices.items
+  pub chosen : joined.choices ≡ choices ++ q.choices
   pub counted : IsCounted (count_of shape) joined.answer
   pub went : (Ends shape turns so_far q joined × ListGrows old.done.items joined new.done.items × (new.more.items ≡ old.more.items))
       ⊎ (SequenceGoesOn shape turns so_far q joined × ListGrows old.more.items joined new.more.items × (new.done.items ≡ old.done.items))
@@ -104,7 +104,7 @@ IsIn f fs = AnyOf (λ g. g ≡ f) fs
 pub record ComesOf (shape : Shape) (turns : Bool) (so_far : SummaryRanges) (choices : List Choice) (part : List ListedOutcome) (f : ListedOutcome) : Type 0 where
   pub one : ListedOutcome
   pub among : IsIn one part
-  pub chosen : f.choices.items ≡ choices ++ one.choices.items
+  pub chosen : f.choices ≡ choices ++ one.choices
   pub goes_on : SequenceGoesOn shape turns so_far one f
 
 pub record SortsAll (shape : Shape) (turns : Bool) (so_far : SummaryRanges) (choices : List Choice) (part : List ListedOutcome) (old new : SequenceOutcomes) : Type 0 where
@@ -188,7 +188,7 @@ pub record Exhausts (p : Path) (old more new : List ListedOutcome) : Type 0 wher
   pub counted : (n : ℕ) → AreCounted n old → AreCounted n new
   pub older : (shape : Shape) (r : Result) → Shown shape old r → Shown shape new r
   pub shown : (shape : Shape) (r : Result) → Shown shape more r → Shown shape new (Exhausted p)
-  pub sound : (shape : Shape) (o : Situation → Result) → Each (λ f. (s : Situation) → AreTaken s f.choices.items → o s ≡ Exhausted p) more
+  pub sound : (shape : Shape) (o : Situation → Result) → Each (λ f. (s : Situation) → AreTaken s f.choices → o s ≡ Exhausted p) more
       → Each (IsSound shape o) old → Each (IsSound shape o) new
   pub placed : (q : Path) → HaveChoices (LieBelow q) old → HaveChoices (LieBelow q) more → HaveChoices (LieBelow q) new
   pub chosen : AreSomeOf (choice_lists new) (choice_lists old ++ choice_lists more)

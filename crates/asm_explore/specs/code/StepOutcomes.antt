@@ -17,9 +17,8 @@ use Rattle.asm_explore.specs.declared.outcomes.listed_outcome.Choice.{Choice}
 use Rattle.asm_explore.specs.declared.outcomes.listed_outcome.ListedOutcome.{ListedOutcome}
 use Rattle.asm_explore.specs.declared.outcomes.outcomes_error.RuleOverLimit.{RuleOverLimit}
 use Rattle.asm_explore.specs.declared.outcomes.outcomes_error.OutcomesError.{OutcomesError}
-use Rattle.asm_explore.specs.code.OverLimit.{AreMany, Refuses}
+use Rattle.asm_explore.specs.code.OverLimit.{AreMade, AreMany, Refuses}
 use Rattle.asm_explore.specs.code.OutcomeLists.{Situation, HaveChoices, Lists}
-use Rattle.asm_explore.specs.code.ChoicesMade.{AreMade}
 use Rattle.asm_explore.specs.code.ChoicePaths.{HaveOwnPaths}
 use Rattle.asm_explore.specs.code.ReachedStates.{steps_from}
 

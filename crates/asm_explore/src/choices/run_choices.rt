@@ -9,7 +9,7 @@ ghost use Rattle.asm_updates.specs.code.Stands.{Stands};
 ghost use Rattle.asm_meaning.specs.Declarations.{main_rule, specification_of};
 ghost use Rattle.asm_code.specs.code.RuleViews.{rule_of};
 ghost use Rattle.asm_resolve.specs.code.RuleScopes.{resolved_rule_in};
-ghost use Rattle.asm_explore.specs.ChoicePoints.{asks_in};
+ghost use Rattle.asm_explore.specs.code.AskedRules.{asks_in};
 ghost use Rattle.asm_explore.specs.code.AskedPieces.{all_said};
 ghost use Rattle.asm_explore.specs.code.StepLeads.{LeadsTo, LeadsUpon, situation_of};
 ghost use Rattle.asm_explore.specs.code.ReachedStates.{steps_from};
@@ -170,8 +170,16 @@ pub fn choices_of_run<P: Picks>(
 {
     resolving_laws();
     let code = resolve_main(alloc, checked)?;
-    let choices = asked_by_run(alloc, checked, &code, turns, script, steps)?;
-    Ok(choices)
+    match asked_by_run(alloc, checked, &code, turns, script, steps) {
+        Ok(choices) => {
+            drop(code);
+            Ok(choices)
+        }
+        Err(refused) => {
+            drop(code);
+            Err(refused)
+        }
+    }
 }
 
 /// Adds a line for each choice of a step.

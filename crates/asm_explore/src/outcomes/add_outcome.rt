@@ -5,7 +5,7 @@ ghost use Rattle.asm_explore.specs.code.OutcomeLists.{ListGrows};
 
 use crate::outcomes::list_error::ListError;
 use crate::outcomes::listed_outcome::ListedOutcome;
-use crate::same_result::is_known;
+use crate::same_result::{is_known, link_last};
 
 /// Adds an outcome, unless its result is there.
 pub(crate) fn add_outcome(
@@ -24,5 +24,6 @@ pub(crate) fn add_outcome(
         return Err(ListError::TooMany);
     }
     found.push(one)?;
+    link_last(found);
     Ok(())
 }

@@ -9,8 +9,10 @@ ghost use Rattle.asm_explore.specs.code.ChoicePaths.{LieBelow, IsPlacedFrom};
 ghost use Rattle.asm_explore.specs.code.ChoiceLists.{choice_lists, AreSomeOf, all_joined};
 
 use crate::outcomes::add_outcome::add_outcome;
+use crate::outcomes::below::Below;
+use crate::outcomes::choice_list::both_choices;
 use crate::outcomes::list_error::ListError;
-use crate::outcomes::listed_outcome::{Choice, ListedOutcome, RuleResult, add_choices, copy_path};
+use crate::outcomes::listed_outcome::{ListedOutcome, RuleResult, copy_path};
 use crate::outcomes::sets::{union, union_into};
 use crate::same_result::hash_of;
 use asm_meaning::Path;
@@ -73,19 +75,18 @@ fn join(
 ) -> Result<ListedOutcome, AllocError>
     requires left { IsCounted (count_of signature.now) left.now.answer }
     requires right { IsCounted (count_of signature.now) right.now.answer }
-    ensures choices { IfOk result (λ f. f.choices.items ≡ left.now.choices.items ++ right.now.choices.items) }
+    ensures choices { IfOk result (λ f. f.choices ≡ left.now.choices ++ right.now.choices) }
     ensures counted { IfOk result (λ f. IsCounted (count_of signature.now) f.answer) }
     ensures rule_result { (shape : Shape) (x y : Yielded) → IfOk result (λ f. Shows shape left.now.answer x → Shows shape right.now.answer y → Shows shape f.answer (yields.beside x y)) }
 {
-    let mut choices = Vec::new(alloc);
-    add_choices(alloc, left.choices.as_slice(), &mut choices)?;
-    add_choices(alloc, right.choices.as_slice(), &mut choices)?;
+    let choices = both_choices(alloc, &left.choices, &right.choices)?;
     let answer = beside(alloc, signature, &left.answer, &right.answer)?;
     let hash = hash_of(&answer);
     Ok(ListedOutcome {
         choices,
         answer,
         hash,
+        below: Below::none(),
     })
 }
 
@@ -172,22 +173,6 @@ fn lesser_path(left: Path, right: Path) -> Path
     }
 }
 
-/// Choices, and others after them.
-fn choices_into(
-    alloc: Global,
-    left: Vec<Choice>,
-    right: Vec<Choice>,
-) -> Result<Vec<Choice>, AllocError>
-    ensures { IfOk result (λ cs. cs.items ≡ left.items ++ right.items) }
-{
-    if left.len() == 0 {
-        return Ok(right);
-    }
-    let mut choices = left;
-    add_choices(alloc, right.as_slice(), &mut choices)?;
-    Ok(choices)
-}
-
 /// Two outcomes beside each other, with the choices of both, in the room of the second.
 fn join_into(
     alloc: Global,
@@ -197,7 +182,7 @@ fn join_into(
 ) -> Result<ListedOutcome, AllocError>
     requires left { IsCounted (count_of signature.now) left.answer }
     requires right { IsCounted (count_of signature.now) right.answer }
-    ensures choices { IfOk result (λ f. f.choices.items ≡ left.choices.items ++ right.choices.items) }
+    ensures choices { IfOk result (λ f. f.choices ≡ left.choices ++ right.choices) }
     ensures counted { IfOk result (λ f. IsCounted (count_of signature.now) f.answer) }
     ensures rule_result { (shape : Shape) (x y : Yielded) → IfOk result (λ f. Shows shape left.answer x → Shows shape right.answer y → Shows shape f.answer (yields.beside x y)) }
 {
@@ -211,12 +196,13 @@ fn join_into(
         answer: right,
         ..
     } = right;
-    let choices = choices_into(alloc, first, then)?;
+    let choices = first.then(alloc, then)?;
     let answer = beside_into(signature, left, right)?;
     Ok(ListedOutcome {
         choices,
         answer,
         hash: 0,
+        below: Below::none(),
     })
 }
 

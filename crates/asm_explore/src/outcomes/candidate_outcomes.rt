@@ -7,13 +7,12 @@ ghost use Rattle.asm_explore.specs.code.OutcomeLists.{Shows, IsCounted, IsPicked
 ghost use Rattle.asm_explore.specs.code.ChoiceLists.{choice_lists, with_choice as with_own};
 
 use crate::outcomes::add_outcome::add_outcome;
+use crate::outcomes::below::Below;
+use crate::outcomes::choice_list::one_more;
 use crate::outcomes::list_error::ListError;
-use crate::outcomes::listed_outcome::{
-    Choice, ListedOutcome, RuleResult, add_choices, copy_result,
-};
+use crate::outcomes::listed_outcome::{ListedOutcome, RuleResult, copy_result};
 use crate::outcomes::sets::in_order;
 use crate::same_result::hash_of;
-use asm_meaning::Path;
 use asm_state::word::Word;
 use std::alloc::{AllocError, Global};
 
@@ -24,23 +23,19 @@ fn with_choice(
     path: &[u64],
     number: u64,
 ) -> Result<ListedOutcome, AllocError>
-    ensures choices { IfOk result (λ f. f.choices.items ≡ one.now.choices.items ++ record { path = path.now; number = number } ∷ []) }
+    ensures choices { IfOk result (λ f. f.choices ≡ one.now.choices ++ record { path = path.now; number = number } ∷ []) }
     ensures counted { (n : ℕ) → IsCounted n one.now.answer → IfOk result (λ f. IsCounted n f.answer) }
     ensures shows { (shape : Shape) (r : Yielded) → IfOk result (λ f. Shows shape one.now.answer r → Shows shape f.answer r) }
 {
-    let mut choices = Vec::new(alloc);
-    add_choices(alloc, one.choices.as_slice(), &mut choices)?;
-    let path = path.to_vec(alloc)?;
-    choices.push(Choice {
-        path: Path::new(path),
-        number,
-    })?;
+    let before = one.choices.share()?;
+    let choices = one_more(alloc, before, path, number)?;
     let answer = copy_result(alloc, &one.answer)?;
     let hash = hash_of(&answer);
     Ok(ListedOutcome {
         choices,
         answer,
         hash,
+        below: Below::none(),
     })
 }
 
@@ -84,26 +79,23 @@ fn choose_into(
     path: &[u64],
     number: u64,
 ) -> Result<ListedOutcome, AllocError>
-    ensures choices { IfOk result (λ f. f.choices.items ≡ one.choices.items ++ record { path = path.now; number = number } ∷ []) }
+    ensures choices { IfOk result (λ f. f.choices ≡ one.choices ++ record { path = path.now; number = number } ∷ []) }
     ensures counted { (n : ℕ) → IsCounted n one.answer → IfOk result (λ f. IsCounted n f.answer) }
     ensures shows { (shape : Shape) (r : Yielded) → IfOk result (λ f. Shows shape one.answer r → Shows shape f.answer r) }
 {
     let ListedOutcome {
-        mut choices,
+        choices: before,
         answer,
         ..
     } = one;
-    let path = path.to_vec(alloc)?;
-    choices.push(Choice {
-        path: Path::new(path),
-        number,
-    })?;
+    let choices = one_more(alloc, before, path, number)?;
     let answer = ordered(answer)?;
     let hash = hash_of(&answer);
     Ok(ListedOutcome {
         choices,
         answer,
         hash,
+        below: Below::none(),
     })
 }
 

@@ -13,6 +13,8 @@ ghost use Rattle.asm_explore.specs.code.ExploredRules.{exploration_shape, yields
 ghost use Rattle.asm_explore.specs.code.OutcomeLists.{Situation, Shows, HaveChoices, IsCounted, Lists};
 
 use crate::exploration::Exploration;
+use crate::outcomes::below::Below;
+use crate::outcomes::choice_list::ChoiceList;
 use crate::outcomes::listed_outcome::{ListedOutcome, RuleResult};
 use crate::outcomes::sets::{no_updates, one_update};
 use asm_code::code::Code;
@@ -23,16 +25,17 @@ use asm_eval::value::value;
 use std::alloc::{AllocError, Global};
 
 /// One outcome, whatever is chosen.
-fn alone(alloc: Global, answer: RuleResult) -> Result<Vec<ListedOutcome>, AllocError>
+pub(crate) fn alone(alloc: Global, answer: RuleResult) -> Result<Vec<ListedOutcome>, AllocError>
     ensures lists { (shape : Shape) (o : Situation → Yielded) → IsCounted (count_of shape) answer → ((s : Situation) → Shows shape answer (o s)) → IfOk result (λ fs. Lists shape o fs.items) }
     ensures choices { IfOk result (λ fs. HaveChoices (λ cs. cs ≡ []) fs.items) }
     ensures one { IfOk result (λ fs. length fs.items ≡ 1) }
 {
     let mut found = Vec::new(alloc);
     found.push(ListedOutcome {
-        choices: Vec::new(alloc),
+        choices: ChoiceList::none(),
         answer,
         hash: 0,
+        below: Below::none(),
     })?;
     Ok(found)
 }

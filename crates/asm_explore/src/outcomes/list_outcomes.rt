@@ -3,7 +3,7 @@
 //! A `choose` has the outcomes of its body for each candidate, each with one more choice. Parts
 //! beside each other have each outcome of one part together with each outcome of the others. The
 //! parts of a sequence go on from each set so far, in the state in which it has been fired. Of
-//! equal outcomes one is kept.
+//! equal outcomes one is kept. A rule in which nothing is chosen is formed once, as in a run.
 ghost use Rattle.std.specs.Prelude.{◌≡◌, ◌+◌, ◌++◌, [], ◌∷◌, ◌<◌, List, cond, IfOk, IfErr, OnOk, map, option_map, length, take};
 ghost use Rattle.asm_state.specs.Location.{State};
 ghost use Rattle.asm_state.specs.Signature.{count_of};
@@ -29,6 +29,7 @@ ghost use Rattle.asm_explore.specs.code.ChoiceLists.{choice_lists};
 
 use crate::exploration::Exploration;
 use crate::outcomes::candidates::{candidate_at, candidates};
+use crate::outcomes::choiceless::{formed, is_formed_once};
 use crate::outcomes::leaf_outcomes::{assigned, empty};
 use crate::outcomes::listed_outcome::{ListedOutcome, RuleResult};
 use crate::outcomes::outcomes_error::OutcomesError;
@@ -72,6 +73,10 @@ pub fn outcomes<'e>(
     ensures { let R = rule_of rule.now in
         ListsOutcomes exploration.now path.now (yields_on exploration.now frame.now path.now R) (makes_on exploration.now frame.now path.now R) result }
 {
+    if is_formed_once(rule) {
+        let found = formed(alloc, exploration, frame, rule, path)?;
+        return Ok(found);
+    }
     match rule {
         RuleCode::Skip => {
             let found = empty(alloc, exploration)?;
@@ -515,21 +520,21 @@ fn list_one<'e>(
     requires counted { IsCounted (count_of (exploration_shape exploration.now)) one.now.answer }
     ensures next { let here = here_on exploration.now frame.now (yields.at path.now number) (rule_of rule.now) in
         OnOk result (NextOne (exploration_shape exploration.now) turns (exploration_state exploration.now) here one.now sorted.old sorted.new) }
-    ensures placed { IsPlacedBefore path.now number one.now.choices.items → BothHave (IsPlacedBefore path.now (number + 1)) sorted.old →
+    ensures placed { IsPlacedBefore path.now number one.now.choices → BothHave (IsPlacedBefore path.now (number + 1)) sorted.old →
         OnOk result (BothHave (IsPlacedBefore path.now (number + 1)) sorted.new) }
     ensures differ { (others : List found_now) → AllDiffer path.now (one.now ∷ others) sorted.old → OnOk result (AllDiffer path.now others sorted.new) }
     ensures made { let here = here_on exploration.now frame.now (yields.at path.now number) (rule_of rule.now) in
         let makes = made_on exploration.now frame.now (yields.at path.now number) (rule_of rule.now) in
         (total : Situation → List Choice) (left left_then : Situation → State → List Choice) → MakesTo turns here makes left left_then →
-        AreMade total one.now.choices.items → HasSet (exploration_shape exploration.now) (MakesOfAll (exploration_state exploration.now) total left) one.now →
+        AreMade total one.now.choices → HasSet (exploration_shape exploration.now) (MakesOfAll (exploration_state exploration.now) total left) one.now →
         MadeSoFar (exploration_shape exploration.now) (exploration_state exploration.now) total left_then sorted.old.done.items sorted.old.more.items →
         OnOk result (MadeSoFar (exploration_shape exploration.now) (exploration_state exploration.now) total left_then sorted.new.done.items sorted.new.more.items) }
     ensures crowded { let here = here_on exploration.now frame.now (yields.at path.now number) (rule_of rule.now) in
         let makes = made_on exploration.now frame.now (yields.at path.now number) (rule_of rule.now) in
         (total : Situation → List Choice) (left left_then : Situation → State → List Choice) → MakesTo turns here makes left left_then →
-        AreMade total one.now.choices.items → HasSet (exploration_shape exploration.now) (MakesOfAll (exploration_state exploration.now) total left) one.now →
+        AreMade total one.now.choices → HasSet (exploration_shape exploration.now) (MakesOfAll (exploration_state exploration.now) total left) one.now →
         MadeSoFar (exploration_shape exploration.now) (exploration_state exploration.now) total left_then sorted.old.done.items sorted.old.more.items →
-        IsPlacedBefore path.now number one.now.choices.items → BothHave (IsPlacedBefore path.now (number + 1)) sorted.old → AllDiffer path.now (one.now ∷ []) sorted.old →
+        IsPlacedBefore path.now number one.now.choices → BothHave (IsPlacedBefore path.now (number + 1)) sorted.old → AllDiffer path.now (one.now ∷ []) sorted.old →
         IfErr result (Refuses exploration.now.limit (λ q. IsWay path.now total)) }
 {
     match &one.answer {

@@ -1,7 +1,9 @@
 //! What a rule may yield, with the choices that lead to it.
-ghost use Rattle.std.specs.Prelude.{◌≡◌, ◌++◌, ℕ, IfOk, OnOk};
+ghost use Rattle.std.specs.Prelude.{◌≡◌, ℕ, IfOk};
 ghost use Rattle.asm_explore.specs.code.OutcomeLists.{IsCounted, IsShownBy};
 
+use crate::outcomes::below::Below;
+use crate::outcomes::choice_list::ChoiceList;
 use crate::outcomes::sets::copy_updates;
 use crate::updates::Updates;
 use asm_meaning::Path;
@@ -26,11 +28,13 @@ pub enum RuleResult {
 /// What a rule yields under each script that makes these choices.
 #[derive(Drop)]
 pub struct ListedOutcome {
-    pub choices: Vec<Choice>,
+    pub choices: ChoiceList,
     pub answer: RuleResult,
     /// By which equal results are found, or 0 while it is alone in its list. No proof rests on it:
     /// they are compared.
     pub hash: u64,
+    /// Where the search for another result goes on.
+    pub below: Below,
 }
 
 /// The same path again.
@@ -42,7 +46,7 @@ pub(crate) fn copy_path(alloc: Global, path: &Path) -> Result<Path, AllocError>
 }
 
 /// The same choice again.
-fn copy_choice(alloc: Global, choice: &Choice) -> Result<Choice, AllocError>
+pub(crate) fn copy_choice(alloc: Global, choice: &Choice) -> Result<Choice, AllocError>
     ensures { IfOk result (λ c. c ≡ choice.now) }
 {
     let path = copy_path(alloc, &choice.path)?;
@@ -50,21 +54,6 @@ fn copy_choice(alloc: Global, choice: &Choice) -> Result<Choice, AllocError>
         path,
         number: choice.number,
     })
-}
-
-/// Adds choices after others.
-pub(crate) fn add_choices(
-    alloc: Global,
-    choices: &[Choice],
-    into: &mut Vec<Choice>,
-) -> Result<(), AllocError>
-    ensures { OnOk result (into.new.items ≡ into.old.items ++ choices.now) }
-{
-    for i in 0..choices.len() {
-        let choice = copy_choice(alloc, &choices[i])?;
-        into.push(choice)?;
-    }
-    Ok(())
 }
 
 /// The same result again.
@@ -89,16 +78,16 @@ pub(crate) fn copy_outcome(
     alloc: Global,
     found: &ListedOutcome,
 ) -> Result<ListedOutcome, AllocError>
-    ensures choices { IfOk result (λ f. f.choices.items ≡ found.now.choices.items) }
+    ensures choices { IfOk result (λ f. f.choices ≡ found.now.choices) }
     ensures counted { (n : ℕ) → IsCounted n found.now.answer → IfOk result (λ f. IsCounted n f.answer) }
     ensures shows { IfOk result (λ f. IsShownBy found.now.answer f.answer) }
 {
-    let mut choices = Vec::new(alloc);
-    add_choices(alloc, found.choices.as_slice(), &mut choices)?;
+    let choices = found.choices.share()?;
     let answer = copy_result(alloc, &found.answer)?;
     Ok(ListedOutcome {
         choices,
         answer,
         hash: found.hash,
+        below: Below::none(),
     })
 }

@@ -128,9 +128,9 @@ pub(crate) fn add_part_of_sequence(
 ) -> Result<(), OutcomesError>
     requires so_far { so_far.now.set.count ≡ count_of signature.now }
     requires part { AreCounted (count_of signature.now) part.items }
-    ensures sorts { OnOk result (SortsAll signature.now turns so_far.now.set one.now.choices.items part.items sorted.old sorted.new) }
+    ensures sorts { OnOk result (SortsAll signature.now turns so_far.now.set one.now.choices part.items sorted.old sorted.new) }
     ensures names { IfErr result (NamesRule path.now (length part.items) (length sorted.old.more.items)) }
-    ensures crowd { IfErr result (IsOverLimit limit (both_ways sorted.old ++ behind one.now.choices.items (choice_lists part.items))) }
+    ensures crowd { IfErr result (IsOverLimit limit (both_ways sorted.old ++ behind one.now.choices (choice_lists part.items))) }
 {
     let (first, others) = (part.len(), sorted.more.len());
     match sequence_outcomes::add_part_of_sequence(

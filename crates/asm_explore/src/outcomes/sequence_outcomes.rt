@@ -10,10 +10,10 @@ ghost use Rattle.asm_explore.specs.code.Sequences.{both_ways, Sorts, SortsAll, A
 ghost use Rattle.asm_explore.specs.code.ChoiceLists.{choice_lists, behind};
 
 use crate::outcomes::add_outcome::add_outcome;
+use crate::outcomes::below::Below;
+use crate::outcomes::choice_list::{ChoiceList, both_choices};
 use crate::outcomes::list_error::ListError;
-use crate::outcomes::listed_outcome::{
-    Choice, ListedOutcome, RuleResult, add_choices, copy_outcome, copy_path,
-};
+use crate::outcomes::listed_outcome::{ListedOutcome, RuleResult, copy_outcome, copy_path};
 use crate::outcomes::sets::{is_last, merged};
 use crate::same_result::hash_of;
 use crate::updates::Updates;
@@ -28,22 +28,12 @@ pub(crate) struct SequenceOutcomes {
     pub more: Vec<ListedOutcome>,
 }
 
-/// The choices of two parts.
-fn both_choices(alloc: Global, first: &[Choice], then: &[Choice]) -> Result<Vec<Choice>, AllocError>
-    ensures { IfOk result (λ cs. cs.items ≡ first.now ++ then.now) }
-{
-    let mut choices = Vec::new(alloc);
-    add_choices(alloc, first, &mut choices)?;
-    add_choices(alloc, then, &mut choices)?;
-    Ok(choices)
-}
-
 /// Adds what comes of an outcome of the next part, upon a set so far with its choices.
 fn add_one_of_part(
     alloc: Global,
     signature: &Signature,
     so_far: &Updates,
-    choices: &[Choice],
+    choices: &ChoiceList,
     one: &ListedOutcome,
     turns: bool,
     limit: usize,
@@ -54,7 +44,7 @@ fn add_one_of_part(
     ensures sorts { OnOk result (Sorts signature.now turns so_far.now.set choices.now one.now sorted.old sorted.new) }
     ensures crowd { IfErr result (IfTooMany (limit ≤ length (both_ways sorted.old))) }
 {
-    let choices = both_choices(alloc, choices, one.choices.as_slice())?;
+    let choices = both_choices(alloc, choices, &one.choices)?;
     match &one.answer {
         RuleResult::Exhausted(path) => {
             let path = copy_path(alloc, path)?;
@@ -64,6 +54,7 @@ fn add_one_of_part(
                 choices,
                 answer,
                 hash,
+                below: Below::none(),
             };
             add_outcome(&mut sorted.done, one, limit)?;
             Ok(())
@@ -76,6 +67,7 @@ fn add_one_of_part(
                 choices,
                 answer,
                 hash,
+                below: Below::none(),
             };
             let last = is_last(signature, set, turns);
             if last {
@@ -94,7 +86,7 @@ fn add_all_of_part(
     alloc: Global,
     signature: &Signature,
     so_far: &Updates,
-    choices: &[Choice],
+    choices: &ChoiceList,
     part: &[ListedOutcome],
     turns: bool,
     limit: usize,
@@ -126,10 +118,10 @@ pub(crate) fn add_part_of_sequence(
 ) -> Result<(), ListError>
     requires so_far { so_far.now.set.count ≡ count_of signature.now }
     requires part { AreCounted (count_of signature.now) part.items }
-    ensures sorts { OnOk result (SortsAll signature.now turns so_far.now.set one.now.choices.items part.items sorted.old sorted.new) }
-    ensures crowd { IfErr result (IfTooMany (limit < length (both_ways sorted.old ++ behind one.now.choices.items (choice_lists part.items)))) }
+    ensures sorts { OnOk result (SortsAll signature.now turns so_far.now.set one.now.choices part.items sorted.old sorted.new) }
+    ensures crowd { IfErr result (IfTooMany (limit < length (both_ways sorted.old ++ behind one.now.choices (choice_lists part.items)))) }
 {
-    let choices = one.choices.as_slice();
+    let choices = &one.choices;
     let outcomes = part.as_slice();
     add_all_of_part(
         alloc, signature, so_far, choices, outcomes, turns, limit, sorted,
@@ -156,11 +148,10 @@ fn add_each(
 
 /// The same choices, with which the whole is exhausted at the path.
 fn exhausted(alloc: Global, one: &ListedOutcome, path: &[u64]) -> Result<ListedOutcome, AllocError>
-    ensures choices { IfOk result (λ f. f.choices.items ≡ one.now.choices.items) }
+    ensures choices { IfOk result (λ f. f.choices ≡ one.now.choices) }
     ensures rule_result { IfOk result (λ f. f.answer ≡ answer.Exhausted path.now) }
 {
-    let mut choices = Vec::new(alloc);
-    add_choices(alloc, one.choices.as_slice(), &mut choices)?;
+    let choices = one.choices.share()?;
     let path = path.to_vec(alloc)?;
     let answer = RuleResult::Exhausted(Path::new(path));
     let hash = hash_of(&answer);
@@ -168,6 +159,7 @@ fn exhausted(alloc: Global, one: &ListedOutcome, path: &[u64]) -> Result<ListedO
         choices,
         answer,
         hash,
+        below: Below::none(),
     })
 }
 

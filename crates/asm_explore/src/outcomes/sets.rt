@@ -48,6 +48,21 @@ pub(crate) fn copy_updates(alloc: Global, updates: &Updates) -> Result<Updates, 
     Ok(Updates { set })
 }
 
+/// The set as that of an outcome. It is marked as one that may have a fault, unless it is empty,
+/// since by another signature a location of it may be a stray one.
+pub(crate) fn marked(set: Summary) -> Result<Updates, AllocError>
+    ensures count { IfOk result (λ u. u.set.count ≡ set.count) }
+    ensures stands { IfOk result (λ u. (shape : Shape) (U : UpdateSet) → Stands shape set U → Stands shape u.set U) }
+{
+    if set.len() == 0 {
+        return Ok(Updates { set });
+    }
+    let mut set = set;
+    let (n, low, high) = set.entry_at(0);
+    set.add(n, low, high)?;
+    Ok(Updates { set })
+}
+
 /// The entries in the order of their locations, so that sets that are the same have the same
 /// entries.
 pub(crate) fn in_order(updates: Updates) -> Result<Updates, AllocError>

@@ -14,7 +14,7 @@ ghost use Rattle.asm_explore.specs.Search.{LeadsOn};
 ghost use Rattle.asm_explore.specs.code.StepOutcomes.{IsOverLimitOf, IsStep};
 
 use crate::machine::Machine;
-use crate::outcomes::listed_outcome::{Choice, ListedOutcome, RuleResult, add_choices};
+use crate::outcomes::listed_outcome::{Choice, ListedOutcome, RuleResult};
 use crate::search::is_same_state;
 use crate::search_error::{SearchError, halted};
 use crate::states::nodes::Nodes;
@@ -82,8 +82,7 @@ fn choices_between<M: Machine>(
     for k in 0..outcomes.len() {
         let one = &outcomes[k];
         if leads(alloc, machine.signature(), one, from, to)? {
-            let mut choices = Vec::new(alloc);
-            add_choices(alloc, one.choices.as_slice(), &mut choices)?;
+            let choices = one.choices.to_vec(alloc)?;
             return Ok(Some(choices));
         }
     }

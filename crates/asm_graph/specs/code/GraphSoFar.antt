@@ -39,13 +39,13 @@ module _ (shape : Shape) where
   FailsSo one f = (r : Result) → Shows shape one.answer r → HasFault f r
 
   pub record IsFollowed (nodes : List Node) (A : State) (one : ListedOutcome) (e : Edge) : Type 0 where
-    pub choices : e.choices.items ≡ one.choices.items
+    pub choices : e.choices.items ≡ one.choices
     pub goes : (r : Result) → Shows shape one.answer r → GoesTo shape nodes A r e.to
 
   pub record IsOutcome (specification : Specification) (turns : ℕ) (A : State) (one : ListedOutcome) : Type 0 where
     pub counted : IsCounted (count_of shape) one.answer
     pub sound : IsSound shape (steps_from specification turns A) one
-    pub apart : HaveOwnPaths one.choices.items
+    pub apart : HaveOwnPaths one.choices
 
 abbrev pub IsLed : Specification → (turns : ℕ) → (within : State → Bool) → (depth : ℕ) → State → Type 0
 IsLed specification turns within depth A = (back : List (List Choice)) × (length back ≡ depth) × LeadTo specification turns within A back

@@ -5,7 +5,7 @@ use Rattle.std.specs.Prelude.{ℕ}
 use Rattle.asm_syntax.specs.code.Views.{spec_of}
 use Rattle.asm_check.specs.Shapes.{shape_of}
 use Rattle.asm_meaning.specs.Declarations.{specification_of}
-use Rattle.asm_explore.specs.Conditions.{holds_in}
+use Rattle.asm_explore.specs.code.ResolvedConditions.{holds_in}
 use Rattle.asm_explore.specs.declared.resolved_question.ResolvedQuestion.{ResolvedQuestion}
 use Rattle.asm_random.specs.RandomResults.{IsBadDraft}
 use Rattle.asm_random.specs.declared.bad_draft.BadDraft.{BadDraft}

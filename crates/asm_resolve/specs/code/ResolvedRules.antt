@@ -6,20 +6,21 @@
 --                                                those that stand for a location for that in ls
 --     IsResolvedTarget program shape names x ts to     under such names `to` names the location
 --                                                      that x with ts does, in each state
---     IsResolvedRule program shape names P c     under such names c yields what P does, in each
+--     IsResolvedRule program shape names P c     under such names c tells what P does, in each
 --                                                state, at each path and under each script
 use Rattle.std.specs.Prelude.{◌≡◌, ℕ, List, Option, Some, None, slice_index_or, is_some}
 use Rattle.asm_state.specs.Location.{Location, State}
 use Rattle.asm_state.specs.Signature.{Shape}
 use Rattle.asm_syntax.specs.Tree.{Name, Term, Terms, Rule, Rules, no_rules, rule_then}
 use Rattle.asm_reader.specs.ScriptLines.{Script, pick}
-use Rattle.asm_meaning.specs.Cases.{runs}
 use Rattle.asm_meaning.specs.Program.{Program, Environment, Binding, ToValue, ToTerm, ToLocation, bound_to}
+use Rattle.asm_meaning.specs.Story.{tells}
 use Rattle.asm_meaning.specs.Targets.{location}
 use Rattle.asm_meaning.specs.Value.{Reading}
 use Rattle.asm_meaning.specs.Yields.{Path}
 use Rattle.asm_code.specs.code.CodeTree.{Code}
-use Rattle.asm_code.specs.code.RuleMeaning.{Locations, meaning, optional_target_location, IsSoundRule, IsSoundOptionalTarget}
+use Rattle.asm_code.specs.code.RuleMeaning.{Locations, optional_target_location, IsSoundRule, IsSoundOptionalTarget}
+use Rattle.asm_code.specs.code.RuleStories.{telling}
 use Rattle.asm_code.specs.code.RuleTree as codes
 use Rattle.asm_code.specs.code.RuleTree.{Place, RuleCode, RuleCodes}
 use Rattle.asm_resolve.specs.code.ResolvedTerms.{Agrees, IsResolved}
@@ -51,8 +52,8 @@ module _ (program : Program) where
 
     pub record IsResolvedRule (slots : List Slot) (P : Rule) (c : RuleCode) : Type 0 where
       pub sound : IsSoundRule shape c
-      pub means : (turns : ℕ) (script : Script) (step : ℕ) (e : Environment) (rs : List Reading) (ls : Locations) (A : State) (p : Path) → PositionsStand slots e rs ls
-          → meaning shape turns (pick script step) c rs ls A p ≡ runs program turns script step P A e p
+      pub tells : (turns : ℕ) (script : Script) (step : ℕ) (e : Environment) (rs : List Reading) (ls : Locations) (A : State) (p : Path) → PositionsStand slots e rs ls
+          → telling shape turns (pick script step) c rs ls A p ≡ tells program turns script step A e p P
 
     abbrev pub AreResolvedRules : List Slot → Rules → RuleCodes → Type 0
     AreResolvedRules slots no_rules codes.no_rules = Unit {0}

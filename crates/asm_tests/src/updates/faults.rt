@@ -1,103 +1,103 @@
-//! Faults of summaries, and their firing, under a signature.
+//! Faults of sets, and their firing, under a signature.
+ghost use Rattle.std.specs.Prelude.{◌≡◌, length};
+ghost use Rattle.asm_state.specs.Signature.{count_of};
 
 use super::*;
-use crate::two::signature_of_two;
+use crate::signatures::signature_of_two;
+use asm_state::signature::Signature;
 use asm_state::state::State;
 use asm_updates::fault::Fault;
 
-static OUTSIDE: [Entry; 2] = [(5, ONE, TWO), (4, ONE, ONE)];
-
-/// Whether an update outside the domain is told before a clash, and the faulty set has its entries.
-fn tells_outside_first(alloc: Global) -> Result<bool, Fail> {
-    let signature = signature_of_two(alloc)?;
-    let summary = summary_of(alloc, 7, &OUTSIDE)?;
-    let copy = summary.copy(alloc)?;
-    let outside = Fault::Outside { function: 0 };
-    Ok(summary.first_fault(&signature) == Some(outside) && has_entries(&copy, &OUTSIDE))
+/// A fault that a static can hold.
+#[derive(Clone, Copy)]
+enum PlainFault {
+    Outside(usize),
+    Clash(Entry),
 }
 
-#[test]
-fn an_update_outside_the_domain_comes_before_a_clash(rt: HostRuntime) -> Result<(), Fail> {
-    assert!(rt; tells_outside_first(rt.alloc())?);
-    Ok(())
+fn fault(plain: PlainFault) -> Fault {
+    match plain {
+        PlainFault::Outside(function) => Fault::Outside { function },
+        PlainFault::Clash((location, low, high)) => Fault::Clash {
+            location,
+            low: value(low),
+            high: value(high),
+        },
+    }
 }
 
-static CLASHES: [Entry; 4] = [
-    (5, FOUR, FIVE),
-    (2, ONE, THREE),
-    (6, ONE, ONE),
-    (0, TWO, TWO),
+/// Calls, and the fault of the set that they leave.
+type Case = (&'static [Call], Option<PlainFault>);
+
+const ONE_AT_TWO: Call = Call::Add(Entries::Proper(&[(2, ONE)]));
+
+const TWO_AT_TWO: Entries = Entries::Proper(&[(2, TWO)]);
+
+const AT_STRAY: Entries = Entries::Any(&[(4, ONE, ONE)]);
+
+static CASES: [Case; 8] = [
+    // An update outside the domain comes before a clash at a location that is less.
+    (
+        &[Call::Add(Entries::Any(&[(5, ONE, TWO), (4, ONE, ONE)]))],
+        Some(PlainFault::Outside(0)),
+    ),
+    // The least location at which values clash.
+    (
+        &[Call::Add(Entries::Any(&[
+            (5, FOUR, FIVE),
+            (2, ONE, THREE),
+            (6, ONE, ONE),
+            (0, TWO, TWO),
+        ]))],
+        Some(PlainFault::Clash((2, ONE, THREE))),
+    ),
+    // Of proper locations, until a union gives one of them a second value, and again once a later
+    // set has replaced it.
+    (&[ONE_AT_TWO], None),
+    (
+        &[ONE_AT_TWO, Call::Union(TWO_AT_TWO)],
+        Some(PlainFault::Clash((2, ONE, TWO))),
+    ),
+    (
+        &[ONE_AT_TWO, Call::Union(TWO_AT_TWO), Call::Merge(TWO_AT_TWO)],
+        None,
+    ),
+    // With a set that names a stray location.
+    (
+        &[ONE_AT_TWO, Call::Union(AT_STRAY)],
+        Some(PlainFault::Outside(0)),
+    ),
+    (
+        &[ONE_AT_TWO, Call::Merge(AT_STRAY)],
+        Some(PlainFault::Outside(0)),
+    ),
+    (&[Call::Add(Entries::Any(&UPDATES))], None),
 ];
 
-/// Whether the clash at the least location is told first.
-fn tells_least_clash(alloc: Global) -> Result<bool, Fail> {
+/// Whether the set that calls leave has the fault, and still has its entries then.
+fn tells(alloc: Global, signature: &Signature, case: &Case) -> Result<bool, AllocError> {
+    let (calls, told) = case;
+    let summary = left_by(alloc, signature.count(), calls)?;
+    Ok(summary.first_fault(signature) == told.map(fault))
+}
+
+fn first_untold(alloc: Global) -> Result<Option<usize>, Fail> {
     let signature = signature_of_two(alloc)?;
-    let summary = summary_of(alloc, 7, &CLASHES)?;
-    let clash = Fault::Clash {
-        location: 2,
-        low: value(ONE),
-        high: value(THREE),
-    };
-    Ok(summary.first_fault(&signature) == Some(clash))
+    for (i, case) in CASES.iter().enumerate() {
+        if !tells(alloc, &signature, case)? {
+            return Ok(Some(i));
+        }
+    }
+    Ok(None)
 }
 
 #[test]
-fn the_first_clash_is_the_one_at_the_least_location(rt: HostRuntime) -> Result<(), Fail> {
-    assert!(rt; tells_least_clash(rt.alloc())?);
+fn faults_of_sets(rt: HostRuntime) -> Result<(), Fail> {
+    assert_eq!(rt; first_untold(rt.alloc())?, None);
     Ok(())
 }
 
-/// Whether a set of proper locations has no fault until a union gives one of them a second value,
-/// and none once a later set has replaced it.
-fn clashes_by_union(alloc: Global) -> Result<bool, Fail> {
-    let signature = signature_of_two(alloc)?;
-    let (one, two) = (value(ONE), value(TWO));
-    let mut first = Summary::new(alloc, 7);
-    let mut second = Summary::new(alloc, 7);
-    first.add_proper(2, one)?;
-    second.add_proper(2, two)?;
-    let has_no_fault = first.first_fault(&signature) == None;
-    first.union(&second)?;
-    let clash = Fault::Clash {
-        location: 2,
-        low: one,
-        high: two,
-    };
-    let clashes = first.first_fault(&signature) == Some(clash);
-    first.merge_with(&second)?;
-    Ok(has_no_fault && clashes && first.first_fault(&signature) == None)
-}
-
-#[test]
-fn a_union_of_proper_locations_clashes(rt: HostRuntime) -> Result<(), Fail> {
-    assert!(rt; clashes_by_union(rt.alloc())?);
-    Ok(())
-}
-
-/// Whether a union with a set that names a stray location has its fault, and so has a turbo merge
-/// with it.
-fn strays_by_union(alloc: Global) -> Result<bool, Fail> {
-    let signature = signature_of_two(alloc)?;
-    let one = value(ONE);
-    let mut united = Summary::new(alloc, 7);
-    let mut merged = Summary::new(alloc, 7);
-    let mut stray = Summary::new(alloc, 7);
-    united.add_proper(2, one)?;
-    merged.add_proper(2, one)?;
-    stray.add(4, one, one)?;
-    united.union(&stray)?;
-    merged.merge_with(&stray)?;
-    let outside = Some(Fault::Outside { function: 0 });
-    Ok(united.first_fault(&signature) == outside && merged.first_fault(&signature) == outside)
-}
-
-#[test]
-fn an_update_outside_the_domain_is_told_after_a_union(rt: HostRuntime) -> Result<(), Fail> {
-    assert!(rt; strays_by_union(rt.alloc())?);
-    Ok(())
-}
-
-static UPDATES: [Entry; 2] = [(3, ONE, ONE), (5, TWO, TWO)];
+const UPDATES: [Entry; 2] = [(3, ONE, ONE), (5, TWO, TWO)];
 
 static FIRED: [Plain; 7] = [
     Plain::Undef,
@@ -119,24 +119,33 @@ static FIRED_AGAIN: [Plain; 7] = [
     Plain::Undef,
 ];
 
+/// A set that was cleared and has another update.
+const AGAIN: [Call; 3] = [
+    Call::Add(Entries::Any(&UPDATES)),
+    Call::Clear,
+    Call::Add(Entries::Any(&[(3, FIVE, FIVE)])),
+];
+
 /// Whether a set is fired into a new state, and then another into this one.
-fn fires(alloc: Global) -> Result<bool, Fail> {
+fn fires(alloc: Global, signature: &Signature, state: &State) -> Result<bool, AllocError>
+    requires seven { count_of signature.now ≡ 7 }
+    requires whole { length state.now ≡ count_of signature.now }
+{
+    let set = summary_of(alloc, 7, &UPDATES)?;
+    let mut next = set.fire(alloc, signature, state)?;
+    let is_new = has_contents(signature, &next, &FIRED) && has_contents(signature, state, &NOTHING);
+    left_by(alloc, 7, &AGAIN)?.fire_into(&mut next);
+    Ok(is_new && has_contents(signature, &next, &FIRED_AGAIN))
+}
+
+fn fires_into_two(alloc: Global) -> Result<bool, Fail> {
     let signature = signature_of_two(alloc)?;
     let state = State::initial(alloc, &signature)?;
-    let mut summary = summary_of(alloc, 7, &UPDATES)?;
-    let has_no_fault = summary.first_fault(&signature) == None;
-    let mut next = summary.fire(alloc, &signature, &state)?;
-    let is_new = has_contents(&signature, &next, &FIRED)
-        && has_contents(&signature, &state, &NOTHING);
-    let five = value(FIVE);
-    summary.clear();
-    summary.add(3, five, five)?;
-    summary.fire_into(&mut next);
-    Ok(has_no_fault && is_new && has_contents(&signature, &next, &FIRED_AGAIN))
+    Ok(fires(alloc, &signature, &state)?)
 }
 
 #[test]
 fn firing_makes_a_new_state(rt: HostRuntime) -> Result<(), Fail> {
-    assert!(rt; fires(rt.alloc())?);
+    assert!(rt; fires_into_two(rt.alloc())?);
     Ok(())
 }

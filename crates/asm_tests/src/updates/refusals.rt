@@ -1,15 +1,26 @@
 //! Summaries for which a call may find no memory. The tests say more if it does:
-//! `rt try --test --fail-alloc N`.
-ghost use Rattle.std.specs.Prelude.{◌≡◌, ◌<◌};
-
+//! `.ci/refusals` refuses each of their requests in turn.
+use super::large::EVENS;
 use super::*;
-use asm_state::number::Number;
-use asm_state::value::Value;
-use asm_state::word::Word;
+
+const EARLIER: [Entry; 2] = [(1, TWO, TWO), (0, ONE, ONE)];
+
+const LATER: [Entry; 2] = [(2, THREE, FOUR), (1, FIVE, FIVE)];
+
+static ADDS: [Call; 8] = [
+    Call::Add(Entries::Any(&[(0, ONE, TWO)])),
+    Call::Add(Entries::Any(&[(1, ONE, TWO)])),
+    Call::Add(Entries::Any(&[(2, ONE, TWO)])),
+    Call::Add(Entries::Any(&[(3, ONE, TWO)])),
+    Call::Add(Entries::Any(&[(4, ONE, TWO)])),
+    Call::Add(Entries::Any(&[(5, ONE, TWO)])),
+    Call::Add(Entries::Any(&[(6, ONE, TWO)])),
+    Call::Add(Entries::Any(&[(7, ONE, TWO)])),
+];
 
 /// Whether two summaries have the same entries.
 fn are_alike(a: &Summary, b: &Summary) -> bool {
-    for n in 0..LOCATIONS {
+    for n in 0..a.count() {
         if a.get(n) != b.get(n) {
             return false;
         }
@@ -17,23 +28,18 @@ fn are_alike(a: &Summary, b: &Summary) -> bool {
     a.len() == b.len()
 }
 
-/// Adds a location. The result is whether it is there, or a refusal left the entries as they were.
-fn adds_or_leaves(alloc: Global, summary: &mut Summary, n: usize) -> Result<bool, AllocError>
-    requires { n < summary.old.count }
-    ensures { summary.new.count ≡ summary.old.count }
-{
+/// Whether a call is made, or a refusal leaves the entries as they were.
+fn makes_or_leaves(alloc: Global, summary: &mut Summary, one: &Call) -> Result<bool, AllocError> {
     let before = summary.copy(alloc)?;
-    let low = Word::of(Value::Number(Number { value: 1 }));
-    let high = Word::of(Value::Number(Number { value: 2 }));
-    let added = summary.add(n, low, high);
-    Ok(added.is_ok() || are_alike(summary, &before))
+    let made = make_call(alloc, summary, one);
+    Ok(made.is_ok() || are_alike(summary, &before))
 }
 
-/// Adds eight locations so.
-fn adds_all_or_leaves(alloc: Global) -> Result<bool, AllocError> {
-    let mut summary = Summary::new(alloc, LOCATIONS);
-    for n in 0..8 {
-        if !adds_or_leaves(alloc, &mut summary, n)? {
+/// That of each call, from these entries on.
+fn all_make_or_leave(alloc: Global, entries: &[Entry], calls: &[Call]) -> Result<bool, AllocError> {
+    let mut summary = summary_of(alloc, 64, entries)?;
+    for one in calls {
+        if !makes_or_leaves(alloc, &mut summary, one)? {
             return Ok(false);
         }
     }
@@ -42,48 +48,26 @@ fn adds_all_or_leaves(alloc: Global) -> Result<bool, AllocError> {
 
 #[test]
 fn a_refused_add_leaves_the_entries(rt: HostRuntime) -> Result<(), Fail> {
-    assert!(rt; adds_all_or_leaves(rt.alloc())?);
+    assert!(rt; all_make_or_leave(rt.alloc(), &[], &ADDS)?);
     Ok(())
-}
-
-/// Whether a union is made, or a refusal left the entries as they were.
-fn unites_or_leaves(alloc: Global) -> Result<bool, AllocError> {
-    let mut summary = earlier(alloc)?;
-    let before = summary.copy(alloc)?;
-    let united = summary.union(&evens(alloc)?);
-    Ok(united.is_ok() || are_alike(&summary, &before))
 }
 
 #[test]
 fn a_refused_union_leaves_the_entries(rt: HostRuntime) -> Result<(), Fail> {
-    assert!(rt; unites_or_leaves(rt.alloc())?);
+    let calls = [Call::Union(Entries::Any(&EVENS))];
+    assert!(rt; all_make_or_leave(rt.alloc(), &EARLIER, &calls)?);
     Ok(())
-}
-
-/// Whether sets are merged, or a refusal left the entries as they were.
-fn merges_or_leaves(alloc: Global) -> Result<bool, AllocError> {
-    let mut summary = earlier(alloc)?;
-    let before = summary.copy(alloc)?;
-    let merged = summary.merge_with(&evens(alloc)?);
-    Ok(merged.is_ok() || are_alike(&summary, &before))
 }
 
 #[test]
 fn a_refused_merge_leaves_the_entries(rt: HostRuntime) -> Result<(), Fail> {
-    assert!(rt; merges_or_leaves(rt.alloc())?);
+    let calls = [Call::Merge(Entries::Any(&EVENS))];
+    assert!(rt; all_make_or_leave(rt.alloc(), &EARLIER, &calls)?);
     Ok(())
-}
-
-/// Whether entries are sorted, or a refusal left them as they were.
-fn sorts_or_leaves(alloc: Global) -> Result<bool, AllocError> {
-    let mut summary = later(alloc)?;
-    let before = summary.copy(alloc)?;
-    let sorted = summary.sort();
-    Ok(sorted.is_ok() || are_alike(&summary, &before))
 }
 
 #[test]
 fn a_refused_sort_leaves_the_entries(rt: HostRuntime) -> Result<(), Fail> {
-    assert!(rt; sorts_or_leaves(rt.alloc())?);
+    assert!(rt; all_make_or_leave(rt.alloc(), &LATER, &[Call::Sort])?);
     Ok(())
 }

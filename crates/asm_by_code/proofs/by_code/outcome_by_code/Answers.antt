@@ -13,8 +13,8 @@ use Rattle.asm_resolve.proofs.ResolvingLaws.{resolving_laws}
 use Rattle.asm_eval.specs.code.Evaluation.{evaluation_shape, evaluation_state}
 use Rattle.asm_by_code.proofs.by_code.outcome_by_code.Goals as goal
 
-pub form-requires-clause-sound : goal.form-requires-clause-sound
-form-requires-clause-sound g c = subst (λ shape. IsSoundRule shape (rule_of c.in_ok-code.code)) (sym c.requires.shaped) c.in_ok-code.ensures.sound
+pub form-formed-requires-clause-sound : goal.form-formed-requires-clause-sound
+form-formed-requires-clause-sound g c = subst (λ shape. IsSoundRule shape (rule_of c.in_ok-code.code)) (sym c.requires.shaped) c.in_ok-code.ensures.sound
 
 pub returns : goal.returns
 returns g c =
@@ -28,4 +28,4 @@ returns g c =
     let R = main_rule s (inits s) in
     let means = subst (λ (shape : Shape). meaning shape r.turns (pick script step) code [] [] (evaluation_state r) p ≡ does (program_of s) r.turns script step (evaluation_state r) nothing_bound p R) (sym c.requires.shaped)
     (resolving_laws.means s R code r.turns script step (evaluation_state r) p c.in_ok-code.ensures) in
-    follows_same (evaluation_shape r) c.form.result _ _ _ _ means c.form.ensures.formed
+    follows_same (evaluation_shape r) c.form-formed.result _ _ _ _ means c.form-formed.ensures.formed

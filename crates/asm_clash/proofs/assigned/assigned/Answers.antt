@@ -2,7 +2,7 @@ use Rattle.std.proofs.Common.{◌∙◌, ◌++◌, ◌∷◌, [], List, ap, arit
 use Rattle.asm_code.specs.code.RuleViews.{target_code_of}
 use Rattle.asm_eval.specs.code.Frames.{code_value}
 use Rattle.asm_eval.specs.code.Evaluation.{target_in}
-use Rattle.asm_clash.specs.code.StandingRules.{all_assigned}
+use Rattle.asm_clash.specs.Standing.{all_assigned}
 use Rattle.asm_clash.specs.declared.assignment.Assignment.{Assignment}
 use Rattle.asm_clash.proofs.Leaves.{elsewhere, here, some_below}
 use Rattle.asm_clash.proofs.assigned.assigned.Goals as goal

@@ -6,7 +6,7 @@ use Rattle.asm_check.specs.Shapes.{shape_of}
 use Rattle.asm_meaning.specs.Declarations.{specification_of}
 use Rattle.asm_code.specs.code.RuleMeaning.{IsSoundRule}
 use Rattle.asm_code.specs.code.RuleViews.{rule_of}
-use Rattle.asm_clash.specs.ClashOfRun.{IsStepEnd}
+use Rattle.asm_clash.specs.code.StepEnds.{IsStepEnd}
 use Rattle.asm_clash.specs.declared.step_end.StepEnd.TheVariants as made
 use Rattle.asm_clash.proofs.Runs.{rest_begin}
 use Rattle.asm_clash.proofs.Steps.{goes_on, ends_exhausted, ends_faulty}

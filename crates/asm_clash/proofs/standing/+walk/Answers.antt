@@ -10,7 +10,7 @@ use Rattle.asm_code.specs.code.RuleViews.{rule_of}
 use Rattle.asm_eval.specs.code.Frames.{readings_of}
 use Rattle.asm_eval.specs.code.Opening.{work_of}
 use Rattle.asm_eval.specs.code.Evaluation.{evaluation_choices, frame_locations, evaluation_shape, evaluation_state}
-use Rattle.asm_clash.specs.code.StandingRules.{all_assigned}
+use Rattle.asm_clash.specs.Standing.{all_assigned}
 use Rattle.asm_clash.specs.declared.assignment.Assignment.{Assignment}
 use Rattle.asm_clash.proofs.ClosedRules.{assign_here, seq_here, other_here, closed_here, pieces_here, piece_here, sound_part, size_of_part}
 use Rattle.asm_clash.proofs.OpenedRules.{works_stand}

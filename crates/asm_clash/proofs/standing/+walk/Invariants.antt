@@ -6,7 +6,8 @@ use Rattle.asm_code.specs.code.RuleViews.{rule_of, rules_of}
 use Rattle.asm_eval.specs.code.Frames.{readings_of}
 use Rattle.asm_eval.specs.code.Opening.{work_of}
 use Rattle.asm_eval.specs.code.Evaluation.{evaluation_choices, frame_locations, evaluation_shape, evaluation_state}
-use Rattle.asm_clash.specs.code.StandingRules.{all_assigned, order_in, stands_at}
+use Rattle.asm_clash.specs.code.StandingRules.{order_in, stands_at}
+use Rattle.asm_clash.specs.Standing.{all_assigned}
 use Rattle.asm_clash.proofs.OpenedRules.{works_stand}
 use Rattle.asm_clash.proofs.Sequences.{IsWalked, order_left, turns_left}
 use Rattle.asm_clash.proofs.standing.+walk.Given as goal

@@ -4,7 +4,7 @@ use Rattle.asm_state.specs.Location.{State}
 use Rattle.asm_state.specs.Signature.{Shape, state_of}
 use Rattle.asm_meaning.specs.code.TermValues.{shown}
 use Rattle.asm_code.specs.code.RuleViews.{rule_of}
-use Rattle.asm_clash.specs.ClashOfRun.{IsStepEnd}
+use Rattle.asm_clash.specs.code.StepEnds.{IsStepEnd}
 use Rattle.asm_clash.proofs.Steps.{nothing_over}
 use Rattle.asm_clash.proofs.step_end.step_end_from.Goals as goal
 

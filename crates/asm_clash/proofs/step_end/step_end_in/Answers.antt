@@ -9,7 +9,7 @@ use Rattle.asm_code.specs.code.RuleViews.{rule_of}
 use Rattle.asm_eval.specs.code.Frames.{readings_of}
 use Rattle.asm_eval.specs.code.Evaluation.{frame_locations}
 use Rattle.asm_state.specs.Signature.{location_at}
-use Rattle.asm_clash.specs.code.StandingRules.{all_assigned}
+use Rattle.asm_clash.specs.Standing.{all_assigned}
 use Rattle.asm_clash.proofs.Steps.{yields_here, standing_here}
 use Rattle.asm_clash.proofs.step_end.step_end_in.Goals as goal
 

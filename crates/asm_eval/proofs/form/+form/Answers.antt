@@ -1,9 +1,13 @@
-use Rattle.std.proofs.Common.{◌≡◌, ℕ, ◌∷◌, Some, None, sym, ap, subst, ◌∙◌, refl, arith, rules}
+use Rattle.std.proofs.Common.{◌≡◌, ℕ, ◌∷◌, map, Some, None, sym, ap, subst, ◌∙◌, refl, arith, rules, suc, ◌+◌, ◌-◌, ◌++◌, [], take, drop, filter}
 use Rattle.std.specs.Prelude.{Ok, option_map}
 use Rattle.asm_state.specs.Signature.{Shape, location_at}
-use Rattle.asm_state.specs.Updates.{one}
+use Rattle.asm_state.specs.Updates.{none, one, merge, fire}
+use Rattle.asm_state.proofs.UpdateLemmas.UnionsAndMerges.{merge_laws}
+use Rattle.asm_state.proofs.UpdateLemmas.Summaries.{fire_laws}
 use Rattle.asm_updates.specs.code.SummaryRanges.{SummaryRanges}
 use Rattle.asm_state.specs.Words.{value_of_code}
+use Rattle.asm_state.specs.code.Codes as values
+use Rattle.asm_meaning.specs.code.Intervals.{between}
 use Rattle.asm_meaning.specs.Does.{Outcome}
 use Rattle.asm_meaning.specs.code.FormedOutcomes.{Follows, Forms, IsMergedPart}
 use Rattle.asm_meaning.specs.Taken.{taken}
@@ -11,7 +15,7 @@ use Rattle.asm_meaning.specs.code.TermValues.{shown}
 use Rattle.asm_meaning.specs.declared.outcome.Forming.{Forming}
 use Rattle.asm_meaning.specs.Yields.{Path, at, Exhausted}
 use Rattle.asm_meaning.proofs.FollowsLaws.{following_laws-same as follows_same, following_laws-nothing as follows_nothing, following_laws-both as follows_both, following_laws-counted as follows_counted, following_laws-stopped as follows_stopped, following_laws-forms_same as forms_same}
-use Rattle.asm_meaning.proofs.Sequences.{sequence_laws-begins as begins, sequence_laws-goes_upon as goes_upon, part_laws-consistent_part as consistent_part, part_laws-ending_part as ending_part, part_laws-some_turn as some_turn, part_laws-consistent_turn as consistent_turn, part_laws-ending_turn as ending_turn, stopping_laws-memory as stopped_for_memory}
+use Rattle.asm_meaning.proofs.Sequences.{sequence_laws-goes_upon as goes_upon, part_laws-consistent_part as consistent_part, part_laws-ending_part as ending_part, part_laws-some_turn as some_turn, part_laws-consistent_turn as consistent_turn, part_laws-ending_turn as ending_turn, stopping_laws-memory as stopped_for_memory}
 use Rattle.asm_code.specs.code.CodeViews.{code_of}
 use Rattle.asm_eval.specs.code.Frames.{readings_of}
 use Rattle.asm_reader.specs.declared.picks.Picks.{Ghosts}
@@ -20,20 +24,21 @@ use Rattle.asm_code.specs.declared.rule_code.RuleCode.{RuleCode}
 use Rattle.asm_code.specs.code.Readings.{always, universe_at}
 use Rattle.asm_code.specs.code.RuleMeaning.{meaning}
 use Rattle.asm_code.specs.code.RuleTree as tree
-use Rattle.asm_code.specs.code.RuleViews.{rule_of}
+use Rattle.asm_code.specs.code.RuleViews.{rule_of, rules_of}
 use Rattle.asm_eval.specs.declared.frame.Frame.{Frame}
 use Rattle.asm_eval.specs.declared.evaluation.Evaluation.{Evaluation}
 use Rattle.asm_eval.specs.code.Regions.{IsFormedOrLeft}
 use Rattle.asm_eval.specs.declared.regions.RegionOutcome.{RegionOutcome}
 use Rattle.asm_eval.specs.declared.regions.RegionOutcome.TheVariants as regions
-use Rattle.asm_eval.specs.code.Evaluation.{evaluation_shape, evaluation_state, evaluation_choices, frame_locations, rule_at, rule_in, rule_upon, passing_in}
-use Rattle.asm_eval.proofs.RuleYields.{skip_yields, assign_yields, par_yields, seq_yields, if_is, if_yes, if_no, if_left_out, let_is, let_with, choose_is, choose_some, choose_none, call_is, call_with, iterate_yields, forall_yields, next_yields, none_yields, exhausted_yields, element_yields, passed_yields, exhausted_element_yields, no_element_yields, value_here, size_here, sound_part, size_of_part}
+use Rattle.asm_eval.specs.code.Evaluation.{evaluation_shape, evaluation_state, evaluation_choices, frame_locations, in_order_at, in_order_in, rule_at, rule_in, rule_upon, passing_in, is_passing, span_at}
+use Rattle.asm_eval.proofs.RuleYields.{skip_yields, assign_yields, par_yields, seq_yields, if_is, if_yes, if_no, if_left_out, let_is, let_with, choose_is, choose_some, choose_none, call_is, call_with, iterate_yields, forall_yields, next_yields, none_yields, exhausted_yields, size_here, sound_part, size_of_part, universe_here}
+use Rattle.asm_eval.proofs.SpanElements.{left_begins, left_same, left_ends, next_of, between_block, none_between, none_more, one_more, codes_between}
 use Rattle.asm_eval.proofs.CodeSequences.{parts_left, turns_left, part_goes_on, part_ends, part_stops, parts_end, turn_goes_on, turn_ends, turn_stops, turns_stop, iterate_yields_turns}
+use Rattle.asm_eval.proofs.SequencesUpon.{none_consistent, upon_begins, upon_same, alone_forms, alone_stops, popped}
 use Rattle.asm_eval.proofs.SingleUpdates.{single_shown, single_upon, goes_by_none, goes_by_one}
 use Rattle.asm_eval.specs.declared.one_update.OneUpdate.TheVariants as single
 use Rattle.std.proofs.lemmas.Result.{on_ok_weaker}
 use Rattle.asm_eval.proofs.form.+form.Goals as goal
-use Rattle.asm_eval.proofs.form.+form.Goals.{form_span-then-passes+in_ok-form_part, form_span-else-passes}
 
 -- what the body yields for a value
 abbrev element_does : {P : Type 0} {picks : Ghosts P} → Evaluation P picks → Frame → Path → ℕ → Value → RuleCode → Outcome
@@ -173,8 +178,72 @@ form_all-returns-in_err-form_part-clause-formed g t c =
 
 -- ---- sequences
 
-pub form_in_order-loop-i-init : goal.form_in_order-loop-i-init
-form_in_order-loop-i-init g t c =
+pub form_in_order-returns-clause-formed : goal.form_in_order-returns-clause-formed
+form_in_order-returns-clause-formed g t c =
+    let a = c.args in
+    let r = a.evaluation.now in
+    let shape = evaluation_shape r in
+    let Rs = rules_of (map rule_of a.parts.now) in
+    let on = c.in_ok-merge_in_order.ensures.formed.formed none (c.new-so_far.ensures.empty shape c.count.ensures.sound c.count.ensures.count) none_consistent in
+    record {
+      count = c.put_back.ensures.count ∙ ap (λ (s : SummaryRanges). s.count) c.set_aside-before.ensures.before;
+      path = search rules;
+      formed = alone_forms shape _ _ (ap (in_order_in r a.frame.now a.forming.now.path.items 0 Rs) (fire_laws.of_none (evaluation_state r)))
+          _ _ a.forming.now.set c.put_back.new.forming.set _ a.forming.now.instances _ c.put_back.new.forming.instances c.put_back.result on
+          c.set_aside-before.ensures.before c.put_back.ensures.instances (c.put_back.ensures.adds shape);
+      exhausted = stopped_for_memory (in_order_at r a.frame.now a.forming.now.path.items Rs) _ c.put_back.result c.put_back.ensures.stopped;
+    }
+
+pub form_in_order-returns-in_err-merge_in_order-clause-formed : goal.form_in_order-returns-in_err-merge_in_order-clause-formed
+form_in_order-returns-in_err-merge_in_order-clause-formed g t c =
+    let a = c.args in
+    let r = a.evaluation.now in
+    let shape = evaluation_shape r in
+    let Rs = rules_of (map rule_of a.parts.now) in
+    record {
+      count = c.merge_in_order.ensures.formed.count ∙ c.set_aside-before.ensures.count;
+      path = search rules;
+      formed = search rules;
+      exhausted = alone_stops shape _ _ (ap (in_order_in r a.frame.now a.forming.now.path.items 0 Rs) (fire_laws.of_none (evaluation_state r)))
+          c.merge_in_order.new.forming.path.items c.merge_in_order.result c.from_residual.result c.in_err-merge_in_order.field-0.0 c.in_err-merge_in_order.was c.from_residual.ensures.1
+          (c.merge_in_order.ensures.formed.exhausted none (c.new-so_far.ensures.empty shape c.count.ensures.sound c.count.ensures.count) none_consistent);
+    }
+
+pub form_turns-returns-clause-formed : goal.form_turns-returns-clause-formed
+form_turns-returns-clause-formed g t c =
+    let a = c.args in
+    let r = a.evaluation.now in
+    let shape = evaluation_shape r in
+    let R = tree.Iterate (rule_of a.body.now) in
+    let on = c.in_ok-merge_turns.ensures.formed.formed none (c.new-so_far.ensures.empty shape c.count.ensures.sound c.count.ensures.count) none_consistent in
+    record {
+      count = c.put_back.ensures.count ∙ ap (λ (s : SummaryRanges). s.count) c.set_aside-before.ensures.before;
+      path = search rules;
+      formed = alone_forms shape _ _ (ap (rule_in r a.frame.now a.forming.now.path.items R) (fire_laws.of_none (evaluation_state r)))
+          _ _ a.forming.now.set c.put_back.new.forming.set _ a.forming.now.instances _ c.put_back.new.forming.instances c.put_back.result on
+          c.set_aside-before.ensures.before c.put_back.ensures.instances (c.put_back.ensures.adds shape);
+      exhausted = stopped_for_memory (rule_at r a.frame.now a.forming.now.path.items R) _ c.put_back.result c.put_back.ensures.stopped;
+    }
+
+pub form_turns-returns-in_err-merge_turns-clause-formed : goal.form_turns-returns-in_err-merge_turns-clause-formed
+form_turns-returns-in_err-merge_turns-clause-formed g t c =
+    let a = c.args in
+    let r = a.evaluation.now in
+    let shape = evaluation_shape r in
+    let R = tree.Iterate (rule_of a.body.now) in
+    record {
+      count = c.merge_turns.ensures.formed.count ∙ c.set_aside-before.ensures.count;
+      path = search rules;
+      formed = search rules;
+      exhausted = alone_stops shape _ _ (ap (rule_in r a.frame.now a.forming.now.path.items R) (fire_laws.of_none (evaluation_state r)))
+          c.merge_turns.new.forming.path.items c.merge_turns.result c.from_residual.result c.in_err-merge_turns.field-0.0 c.in_err-merge_turns.was c.from_residual.ensures.1
+          (c.merge_turns.ensures.formed.exhausted none (c.new-so_far.ensures.empty shape c.count.ensures.sound c.count.ensures.count) none_consistent);
+    }
+
+-- ---- parts
+
+pub merge_in_order-loop-i-init : goal.merge_in_order-loop-i-init
+merge_in_order-loop-i-init g t c =
     let a = c.args in
     let r = a.evaluation.now in
     let shape = evaluation_shape r in
@@ -182,104 +251,96 @@ form_in_order-loop-i-init g t c =
       ready = c.requires.ready;
       same_count = refl;
       same_path = refl;
-      same_before = refl;
-      counted = c.new-so_far.ensures.count ∙ c.count.ensures.count;
-      underway = begins shape (evaluation_state r) _
+      counted = c.requires.so_far;
+      underway = λ U stands consistent. upon_begins shape U (fire (evaluation_state r) U) _
           (parts_left shape r.turns (evaluation_choices r) (readings_of shape a.frame.now) (frame_locations shape a.frame.now) a.forming.now.path.items a.parts.now 0)
-          c.new-so_far.result a.forming.now.instances refl (omega (arith, a.forming.now.in_range)) (c.new-so_far.ensures.empty shape c.count.ensures.sound c.count.ensures.count);
+          a.so_far.now a.forming.now.instances refl (omega (arith, a.forming.now.in_range)) stands;
     }
 
-pub form_in_order-form_next-requires : goal.form_in_order-form_next-requires
-form_in_order-form_next-requires g t c κs within =
+pub merge_in_order-form_next-requires : goal.merge_in_order-form_next-requires
+merge_in_order-form_next-requires g t c κs within =
     let a = c.args in
     let r = a.evaluation.now in
     let shape = evaluation_shape r in
     let l = c.loop-i in
     let small = size_of_part a.parts.now l.i c.index-parts-i.result c.loop-i-test.true c.index-parts-i.is in
-    let alone = l.invariant.same_count ∙ c.set_aside-before.ensures.count ∙ c.requires.fits in
+    let alone = l.invariant.same_count ∙ c.requires.fits in
     (omega (arith, c.decreases, small), (search rules, (search rules, (sound_part shape a.parts.now l.i c.index-parts-i.result c.loop-i-test.true c.index-parts-i.is c.requires.sound, (c.requires.framed, (l.invariant.ready, (alone, l.invariant.counted)))))))
 
-pub form_in_order-loop-i-preserved : goal.form_in_order-loop-i-preserved
-form_in_order-loop-i-preserved g t c =
+pub merge_in_order-loop-i-preserved : goal.merge_in_order-loop-i-preserved
+merge_in_order-loop-i-preserved g t c =
     let a = c.args in
     let r = a.evaluation.now in
     let shape = evaluation_shape r in
     let l = c.loop-i in
-    let under = l.invariant.underway in
-    let on = c.in_ok-part.ensures.formed.formed under.set under.stands under.consistent in
     record {
       ready = c.in_ok-part.ensures.ready;
       same_count = c.in_ok-part.ensures.formed.count ∙ l.invariant.same_count;
       same_path = c.in_ok-part.ensures.formed.path ∙ l.invariant.same_path;
-      same_before = l.invariant.same_before;
       counted = c.in_ok-part.ensures.formed.so_far_count ∙ l.invariant.counted;
-      underway = part_goes_on shape r.turns (evaluation_choices r) (readings_of shape a.frame.now) (frame_locations shape a.frame.now) a.forming.now.path.items (evaluation_state r) _ _ _ _ a.parts.now l.i under
+      underway = λ U stands consistent.
+          let under = l.invariant.underway U stands consistent in
+          let on = c.in_ok-part.ensures.formed.formed (merge U under.set) under.stands (merge_laws.consistent U under.set consistent under.consistent) in
+          part_goes_on shape r.turns (evaluation_choices r) (readings_of shape a.frame.now) (frame_locations shape a.frame.now) a.forming.now.path.items (evaluation_state r) U _ _ _ _ _ a.parts.now l.i under
           l.forming.path.items c.index-parts-i.result l.invariant.same_path c.loop-i-test.true c.index-parts-i.is
-          c.form_next.new.so_far c.in_ok-part.part c.form_next.new.forming.instances on
-          (consistent_part on.set c.in_ok-part.part on.is (sym c.ends_parts.ensures ∙ c.if-ends_parts.false));
+          c.form_next.new.so_far c.in_ok-part.part c.joined-whole.result c.form_next.new.forming.instances on
+          (consistent_part on.set c.in_ok-part.part on.is (sym c.ends_parts.ensures ∙ c.if-ends_parts.false))
+          (c.joined-whole.ensures under.set on.set under.consistent under.is on.is);
     }
 
-pub form_in_order-put_back-requires : goal.form_in_order-put_back-requires
-form_in_order-put_back-requires g t c =
-    let l = c.loop-i.invariant in
-    c.in_ok-part.ensures.formed.so_far_count ∙ l.counted ∙ sym c.requires.fits ∙ sym (ap (λ (s : SummaryRanges). s.count) (l.same_before ∙ c.set_aside-before.ensures.before))
-
-pub form_in_order-put_back-requires-2 : goal.form_in_order-put_back-requires-2
-form_in_order-put_back-requires-2 g t c =
-    let l = c.loop-i.invariant in
-    l.counted ∙ sym c.requires.fits ∙ sym (ap (λ (s : SummaryRanges). s.count) (l.same_before ∙ c.set_aside-before.ensures.before))
-
-pub form_in_order-returns-clause-formed : goal.form_in_order-returns-clause-formed
-form_in_order-returns-clause-formed g t c =
+pub merge_in_order-returns-clause-formed : goal.merge_in_order-returns-clause-formed
+merge_in_order-returns-clause-formed g t c =
     let a = c.args in
     let r = a.evaluation.now in
     let shape = evaluation_shape r in
     let l = c.loop-i in
     record {
-      count = c.put_back-2.ensures.count ∙ ap (λ (s : SummaryRanges). s.count) (c.loop-i.invariant.same_before ∙ c.set_aside-before.ensures.before);
-      path = search rules;
-      formed = parts_end shape r.turns (evaluation_choices r) (readings_of shape a.frame.now) (frame_locations shape a.frame.now) a.forming.now.path.items (evaluation_state r) _ _ _ _ a.parts.now l.i l.invariant.underway
-          l.before a.forming.now.set c.put_back-2.new.forming.set c.put_back-2.new.forming.instances c.put_back-2.result c.loop-i-test.false (l.invariant.same_before ∙ c.set_aside-before.ensures.before)
-          c.put_back-2.ensures.instances (c.put_back-2.ensures.adds shape);
-      exhausted = stopped_for_memory
-          (parts_left shape r.turns (evaluation_choices r) (readings_of shape a.frame.now) (frame_locations shape a.frame.now) a.forming.now.path.items a.parts.now 0 (evaluation_state r)) _ c.put_back-2.result c.put_back-2.ensures.stopped;
+      count = l.invariant.same_count;
+      so_far_count = l.invariant.counted ∙ sym c.requires.so_far;
+      path = l.invariant.same_path;
+      formed = λ U stands consistent.
+          parts_end shape r.turns (evaluation_choices r) (readings_of shape a.frame.now) (frame_locations shape a.frame.now) a.forming.now.path.items (evaluation_state r) U _ _ _ _ _ a.parts.now l.i (l.invariant.underway U stands consistent) c.loop-i-test.false;
+      exhausted = λ U stands consistent. tt;
     }
 
-pub form_in_order-returns-then-ends_parts-clause-formed : goal.form_in_order-returns-then-ends_parts-clause-formed
-form_in_order-returns-then-ends_parts-clause-formed g t c =
+pub merge_in_order-returns-then-ends_parts-clause-formed : goal.merge_in_order-returns-then-ends_parts-clause-formed
+merge_in_order-returns-then-ends_parts-clause-formed g t c =
     let a = c.args in
     let r = a.evaluation.now in
     let shape = evaluation_shape r in
     let l = c.loop-i in
-    let under = l.invariant.underway in
-    let on = c.in_ok-part.ensures.formed.formed under.set under.stands under.consistent in
     record {
-      count = c.put_back.ensures.count ∙ ap (λ (s : SummaryRanges). s.count) (c.loop-i.invariant.same_before ∙ c.set_aside-before.ensures.before);
-      path = search rules;
-      formed = part_ends shape r.turns (evaluation_choices r) (readings_of shape a.frame.now) (frame_locations shape a.frame.now) a.forming.now.path.items (evaluation_state r) _ _ _ _ a.parts.now l.i under
+      count = c.in_ok-part.ensures.formed.count ∙ l.invariant.same_count;
+      so_far_count = c.in_ok-part.ensures.formed.so_far_count ∙ l.invariant.counted ∙ sym c.requires.so_far;
+      path = c.in_ok-part.ensures.formed.path ∙ l.invariant.same_path;
+      formed = λ U stands consistent.
+          let under = l.invariant.underway U stands consistent in
+          let on = c.in_ok-part.ensures.formed.formed (merge U under.set) under.stands (merge_laws.consistent U under.set consistent under.consistent) in
+          part_ends shape r.turns (evaluation_choices r) (readings_of shape a.frame.now) (frame_locations shape a.frame.now) a.forming.now.path.items (evaluation_state r) U _ _ _ _ _ a.parts.now l.i under
           l.forming.path.items c.index-parts-i.result l.invariant.same_path c.loop-i-test.true c.index-parts-i.is
-          c.form_next.new.so_far c.in_ok-part.part l.before a.forming.now.set c.put_back.new.forming.set c.form_next.new.forming.instances c.put_back.new.forming.instances c.put_back.result on
+          c.form_next.new.so_far c.in_ok-part.part c.joined-whole.result c.form_next.new.forming.instances on
           (ending_part on.set c.in_ok-part.part on.is (sym c.ends_parts.ensures ∙ c.if-ends_parts.true))
-          (l.invariant.same_before ∙ c.set_aside-before.ensures.before) c.put_back.ensures.instances (c.put_back.ensures.adds shape);
-      exhausted = stopped_for_memory
-          (parts_left shape r.turns (evaluation_choices r) (readings_of shape a.frame.now) (frame_locations shape a.frame.now) a.forming.now.path.items a.parts.now 0 (evaluation_state r)) _ c.put_back.result c.put_back.ensures.stopped;
+          (c.joined-whole.ensures under.set on.set under.consistent under.is on.is);
+      exhausted = λ U stands consistent. tt;
     }
 
-pub form_in_order-returns-in_err-part-clause-formed : goal.form_in_order-returns-in_err-part-clause-formed
-form_in_order-returns-in_err-part-clause-formed g t c =
+pub merge_in_order-returns-in_err-part-clause-formed : goal.merge_in_order-returns-in_err-part-clause-formed
+merge_in_order-returns-in_err-part-clause-formed g t c =
     let a = c.args in
     let r = a.evaluation.now in
     let shape = evaluation_shape r in
     let l = c.loop-i in
-    let under = l.invariant.underway in
     record {
-      count = search rules;
+      count = c.form_next.ensures.formed.count ∙ l.invariant.same_count;
+      so_far_count = search rules;
       path = search rules;
       formed = search rules;
-      exhausted = part_stops shape r.turns (evaluation_choices r) (readings_of shape a.frame.now) (frame_locations shape a.frame.now) a.forming.now.path.items (evaluation_state r) _ _ _ _ a.parts.now l.i under
+      exhausted = λ U stands consistent.
+          let under = l.invariant.underway U stands consistent in
+          part_stops shape r.turns (evaluation_choices r) (readings_of shape a.frame.now) (frame_locations shape a.frame.now) a.forming.now.path.items (evaluation_state r) U _ _ _ _ _ a.parts.now l.i under
           l.forming.path.items c.index-parts-i.result l.invariant.same_path c.loop-i-test.true c.index-parts-i.is
           c.form_next.new.forming.path.items c.form_next.result c.from_residual.result c.in_err-part.field-0.0 c.in_err-part.was c.from_residual.ensures.1
-          (c.form_next.ensures.formed.exhausted under.set under.stands under.consistent);
+          (c.form_next.ensures.formed.exhausted (merge U under.set) under.stands (merge_laws.consistent U under.set consistent under.consistent));
     }
 
 pub form_next-merge_update-requires-clause-location : goal.form_next-merge_update-requires-clause-location
@@ -322,6 +383,92 @@ form_next-returns-in-Update-clause-formed g t c =
       exhausted = λ U stands consistent. stopped_for_memory (rule_upon r U a.frame.now (at a.forming.now.path.items a.number) (rule_of a.rule.now)) _ c.merge_update.result c.merge_update.ensures.keeps.stopped;
     }
 
+pub merge_numbered-returns-clause-formed : goal.merge_numbered-returns-clause-formed
+merge_numbered-returns-clause-formed g t c =
+    let a = c.args in
+    let r = a.evaluation.now in
+    let shape = evaluation_shape r in
+    let v = c.merge_rule.new.forming.path in
+    record {
+      count = c.in_ok-part.ensures.formed.count;
+      so_far_count = c.in_ok-part.ensures.formed.so_far_count;
+      path = popped v.items c.pop.new.self.items a.forming.now.path.items v.len a.number (omega (arith, v.ok.0)) c.pop.ensures.rest (c.in_ok-part.ensures.formed.path ∙ c.in_ok-push.ensures.items);
+      formed = λ U stands consistent.
+          subst (λ q. IsMergedPart shape (rule_upon r U a.frame.now q (rule_of a.rule.now)) U c.merge_rule.new.so_far c.in_ok-part.part a.forming.now.instances c.merge_rule.new.forming.instances)
+          c.in_ok-push.ensures.items (c.in_ok-part.ensures.formed.formed U stands consistent);
+      exhausted = λ U stands consistent. tt;
+    }
+
+pub merge_rule-returns-in-Seq-clause-formed : goal.merge_rule-returns-in-Seq-clause-formed
+merge_rule-returns-in-Seq-clause-formed g t c =
+    let a = c.args in
+    let r = a.evaluation.now in
+    let shape = evaluation_shape r in
+    upon_same shape _ _ _ _ _ _ c.merge_in_order.result
+    (λ U stands consistent.
+        seq_yields shape r.turns (evaluation_choices r) (readings_of shape a.frame.now) (frame_locations shape a.frame.now) (fire (evaluation_state r) U) a.forming.now.path.items a.rule.now c.in-Seq.parts c.in-Seq.is c.as_slice.result.now c.as_slice.ensures.value)
+    c.merge_in_order.ensures.formed
+
+pub merge_rule-returns-in-If-clause-formed : goal.merge_rule-returns-in-If-clause-formed
+merge_rule-returns-in-If-clause-formed g t c =
+    let a = c.args in
+    let r = a.evaluation.now in
+    let shape = evaluation_shape r in
+    upon_same shape _ _ _ _ _ _ c.merge_if.result
+    (λ U stands consistent.
+        if_is shape r.turns (evaluation_choices r) (readings_of shape a.frame.now) (frame_locations shape a.frame.now) (fire (evaluation_state r) U) a.forming.now.path.items a.rule.now c.in-If.test c.in-If.yes c.in-If.no c.in-If.is _ c.deref.result.now c.deref-in-If.result.now refl c.deref.ensures c.deref-in-If.ensures)
+    c.merge_if.ensures.formed
+
+pub merge_rule-returns-in-Iterate-clause-formed : goal.merge_rule-returns-in-Iterate-clause-formed
+merge_rule-returns-in-Iterate-clause-formed g t c =
+    let a = c.args in
+    let r = a.evaluation.now in
+    let shape = evaluation_shape r in
+    upon_same shape _ _ _ _ _ _ c.merge_turns.result
+    (λ U stands consistent.
+        iterate_yields shape r.turns (evaluation_choices r) (readings_of shape a.frame.now) (frame_locations shape a.frame.now) (fire (evaluation_state r) U) a.forming.now.path.items a.rule.now c.in-Iterate.body c.in-Iterate.is c.deref-in-Iterate.result.now c.deref-in-Iterate.ensures)
+    c.merge_turns.ensures.formed
+
+pub merge_rule-returns-in-Call-clause-formed : goal.merge_rule-returns-in-Call-clause-formed
+merge_rule-returns-in-Call-clause-formed g t c =
+    let a = c.args in
+    let r = a.evaluation.now in
+    let shape = evaluation_shape r in
+    upon_same shape _ _ _ _ _ _ c.merge_call.result
+    (λ U stands consistent.
+        call_is shape r.turns (evaluation_choices r) (readings_of shape a.frame.now) (frame_locations shape a.frame.now) (fire (evaluation_state r) U) a.forming.now.path.items a.rule.now c.in-Call.body c.in-Call.answer c.in-Call.arguments c.in-Call.is c.deref-in-Call.result.now _ c.as_slice-in-Call.result.now c.deref-in-Call.ensures refl c.as_slice-in-Call.ensures.value)
+    c.merge_call.ensures.formed
+
+pub merge_if-returns-then-holds_upon-clause-formed : goal.merge_if-returns-then-holds_upon-clause-formed
+merge_if-returns-then-holds_upon-clause-formed g t c =
+    let a = c.args in
+    let r = a.evaluation.now in
+    let shape = evaluation_shape r in
+    upon_same shape _ _ _ _ _ _ c.form_next.result
+    (λ U stands consistent.
+        if_yes shape r.turns (evaluation_choices r) (readings_of shape a.frame.now) (frame_locations shape a.frame.now) (fire (evaluation_state r) U) a.forming.now.path.items a.test.now a.yes.now a.no.now (sym (c.holds_upon.ensures U stands consistent) ∙ c.if-holds_upon.true))
+    c.form_next.ensures.formed
+
+pub merge_if-returns-clause-formed : goal.merge_if-returns-clause-formed
+merge_if-returns-clause-formed g t c =
+    let a = c.args in
+    let r = a.evaluation.now in
+    let shape = evaluation_shape r in
+    upon_same shape _ _ _ _ _ _ c.form_next-2.result
+    (λ U stands consistent.
+        if_no shape r.turns (evaluation_choices r) (readings_of shape a.frame.now) (frame_locations shape a.frame.now) (fire (evaluation_state r) U) a.forming.now.path.items a.test.now a.yes.now a.no.now (sym (c.holds_upon.ensures U stands consistent) ∙ c.if-holds_upon.false))
+    c.form_next-2.ensures.formed
+
+pub merge_call-returns-clause-formed : goal.merge_call-returns-clause-formed
+merge_call-returns-clause-formed g t c =
+    let a = c.args in
+    let r = a.evaluation.now in
+    let shape = evaluation_shape r in
+    upon_same shape _ _ _ _ _ _ c.form_next.result
+    (λ U stands consistent.
+        call_with shape r.turns (evaluation_choices r) (readings_of shape a.frame.now) (frame_locations shape a.frame.now) (fire (evaluation_state r) U) a.forming.now.path.items a.body.now a.answer.now a.arguments.now c.in_ok-answer.answer (c.in_ok-answer.ensures.location U stands consistent))
+    c.form_next.ensures.formed
+
 pub form_upon-returns-clause-formed : goal.form_upon-returns-clause-formed
 form_upon-returns-clause-formed g t c =
     let a = c.args in
@@ -333,23 +480,23 @@ form_upon-returns-clause-formed g t c =
       path = search rules;
       formed = λ U stands consistent.
           let v = c.upon-view.result in
-          subst (λ n. IsMergedPart shape (rule_upon r U a.frame.now (at a.forming.now.path.items a.number) (rule_of a.rule.now)) U c.merge_part.new.so_far c.of-part.result a.forming.now.instances n) (sym c.merge_part.ensures.keeps.instances)
-          (goes_upon shape _ U c.clear.new.self a.so_far.now c.merge_part.new.so_far c.form_part.new.forming.set c.of-part.result a.forming.now.instances c.form_part.new.forming.instances
+          subst (λ n. IsMergedPart shape (rule_upon r U a.frame.now a.forming.now.path.items (rule_of a.rule.now)) U c.merge_part.new.so_far c.of-part.result a.forming.now.instances n) (sym c.merge_part.ensures.keeps.instances)
+          (goes_upon shape _ U c.clear.new.self a.so_far.now c.merge_part.new.so_far c.form.new.forming.set c.of-part.result a.forming.now.instances c.form.new.forming.instances
           (c.clear.ensures.empty shape r.view.now.sound c.requires.fits)
           stands
           (c.in_ok-merge_part.ensures.merge shape)
           c.of-part.ensures
           (forms_same shape _ _ _ _ _ _
-          (ap (rule_in r a.frame.now (at a.forming.now.path.items a.number) (rule_of a.rule.now)) (c.upon-view.ensures.fired U stands consistent))
-          (subst (λ s. Forms s (meaning s r.turns (evaluation_choices r) (rule_of a.rule.now) (readings_of s a.frame.now) (frame_locations s a.frame.now) (shown v) (at a.forming.now.path.items a.number)) c.clear.new.self c.form_part.new.forming.set a.forming.now.instances c.form_part.new.forming.instances) c.upon-view.ensures.signature
-          c.in_ok-form_part.ensures.formed.formed)));
+          (ap (rule_in r a.frame.now a.forming.now.path.items (rule_of a.rule.now)) (c.upon-view.ensures.fired U stands consistent))
+          (subst (λ s. Forms s (meaning s r.turns (evaluation_choices r) (rule_of a.rule.now) (readings_of s a.frame.now) (frame_locations s a.frame.now) (shown v) a.forming.now.path.items) c.clear.new.self c.form.new.forming.set a.forming.now.instances c.form.new.forming.instances) c.upon-view.ensures.signature
+          c.in_ok-form.ensures.formed.formed)));
       exhausted = λ U stands consistent. tt;
     }
 
 -- ---- turns
 
-pub form_turns-loop-turn-init : goal.form_turns-loop-turn-init
-form_turns-loop-turn-init g t c =
+pub merge_turns-loop-turn-init : goal.merge_turns-loop-turn-init
+merge_turns-loop-turn-init g t c =
     let a = c.args in
     let r = a.evaluation.now in
     let shape = evaluation_shape r in
@@ -357,87 +504,89 @@ form_turns-loop-turn-init g t c =
       ready = c.requires.ready;
       same_count = refl;
       same_path = refl;
-      same_before = refl;
-      counted = c.new-so_far.ensures.count ∙ c.count.ensures.count;
-      underway = begins shape (evaluation_state r) _
+      counted = c.requires.so_far;
+      underway = λ U stands consistent. upon_begins shape U (fire (evaluation_state r) U) _
           (turns_left shape r.turns (evaluation_choices r) (readings_of shape a.frame.now) (frame_locations shape a.frame.now) a.forming.now.path.items r.turns (rule_of a.body.now) 0)
-          c.new-so_far.result a.forming.now.instances
-          (sym (iterate_yields_turns shape r.turns (evaluation_choices r) (readings_of shape a.frame.now) (frame_locations shape a.frame.now) a.forming.now.path.items (rule_of a.body.now) (evaluation_state r)))
-          (omega (arith, a.forming.now.in_range)) (c.new-so_far.ensures.empty shape c.count.ensures.sound c.count.ensures.count);
+          a.so_far.now a.forming.now.instances
+          (sym (iterate_yields_turns shape r.turns (evaluation_choices r) (readings_of shape a.frame.now) (frame_locations shape a.frame.now) a.forming.now.path.items (rule_of a.body.now) (fire (evaluation_state r) U)))
+          (omega (arith, a.forming.now.in_range)) stands;
     }
 
-pub form_turns-loop-turn-preserved : goal.form_turns-loop-turn-preserved
-form_turns-loop-turn-preserved g t c =
+pub merge_turns-loop-turn-preserved : goal.merge_turns-loop-turn-preserved
+merge_turns-loop-turn-preserved g t c =
     let a = c.args in
     let r = a.evaluation.now in
     let shape = evaluation_shape r in
     let l = c.loop-turn in
-    let under = l.invariant.underway in
-    let on = c.in_ok-part.ensures.formed.formed under.set under.stands under.consistent in
     record {
       ready = c.in_ok-part.ensures.ready;
       same_count = c.in_ok-part.ensures.formed.count ∙ l.invariant.same_count;
       same_path = c.in_ok-part.ensures.formed.path ∙ l.invariant.same_path;
-      same_before = l.invariant.same_before;
       counted = c.in_ok-part.ensures.formed.so_far_count ∙ l.invariant.counted;
-      underway = turn_goes_on shape r.turns (evaluation_choices r) (readings_of shape a.frame.now) (frame_locations shape a.frame.now) a.forming.now.path.items (evaluation_state r) _ _ _ _ r.turns (rule_of a.body.now) l.turn under
+      underway = λ U stands consistent.
+          let under = l.invariant.underway U stands consistent in
+          let on = c.in_ok-part.ensures.formed.formed (merge U under.set) under.stands (merge_laws.consistent U under.set consistent under.consistent) in
+          turn_goes_on shape r.turns (evaluation_choices r) (readings_of shape a.frame.now) (frame_locations shape a.frame.now) a.forming.now.path.items (evaluation_state r) U _ _ _ _ _ r.turns (rule_of a.body.now) l.turn under
           l.forming.path.items c.from.result l.invariant.same_path c.loop-turn-test.true c.from.ensures
-          c.form_next.new.so_far c.in_ok-part.part c.form_next.new.forming.instances on
+          c.form_next.new.so_far c.in_ok-part.part c.joined-whole.result c.form_next.new.forming.instances on
           (some_turn on.set c.in_ok-part.part on.is (sym c.ends_turns.ensures ∙ c.if-ends_turns.false))
-          (consistent_turn on.set c.in_ok-part.part on.is (sym c.ends_turns.ensures ∙ c.if-ends_turns.false));
+          (consistent_turn on.set c.in_ok-part.part on.is (sym c.ends_turns.ensures ∙ c.if-ends_turns.false))
+          (c.joined-whole.ensures under.set on.set under.consistent under.is on.is);
     }
 
-pub form_turns-put_back-requires : goal.form_turns-put_back-requires
-form_turns-put_back-requires g t c =
-    let l = c.loop-turn.invariant in
-    c.in_ok-part.ensures.formed.so_far_count ∙ l.counted ∙ sym c.requires.fits ∙ sym (ap (λ (s : SummaryRanges). s.count) (l.same_before ∙ c.set_aside-before.ensures.before))
-
-pub form_turns-returns-then-ends_turns-clause-formed : goal.form_turns-returns-then-ends_turns-clause-formed
-form_turns-returns-then-ends_turns-clause-formed g t c =
+pub merge_turns-returns-then-ends_turns-clause-formed : goal.merge_turns-returns-then-ends_turns-clause-formed
+merge_turns-returns-then-ends_turns-clause-formed g t c =
     let a = c.args in
     let r = a.evaluation.now in
     let shape = evaluation_shape r in
     let l = c.loop-turn in
-    let under = l.invariant.underway in
-    let on = c.in_ok-part.ensures.formed.formed under.set under.stands under.consistent in
     record {
-      count = c.put_back.ensures.count ∙ ap (λ (s : SummaryRanges). s.count) (c.loop-turn.invariant.same_before ∙ c.set_aside-before.ensures.before);
-      path = search rules;
-      formed = turn_ends shape r.turns (evaluation_choices r) (readings_of shape a.frame.now) (frame_locations shape a.frame.now) a.forming.now.path.items (evaluation_state r) _ _ _ _ r.turns (rule_of a.body.now) l.turn under
+      count = c.in_ok-part.ensures.formed.count ∙ l.invariant.same_count;
+      so_far_count = c.in_ok-part.ensures.formed.so_far_count ∙ l.invariant.counted ∙ sym c.requires.so_far;
+      path = c.in_ok-part.ensures.formed.path ∙ l.invariant.same_path;
+      formed = λ U stands consistent.
+          let under = l.invariant.underway U stands consistent in
+          let on = c.in_ok-part.ensures.formed.formed (merge U under.set) under.stands (merge_laws.consistent U under.set consistent under.consistent) in
+          turn_ends shape r.turns (evaluation_choices r) (readings_of shape a.frame.now) (frame_locations shape a.frame.now) a.forming.now.path.items (evaluation_state r) U _ _ _ _ _ r.turns (rule_of a.body.now) l.turn under
           l.forming.path.items c.from.result l.invariant.same_path c.loop-turn-test.true c.from.ensures
-          c.form_next.new.so_far c.in_ok-part.part l.before a.forming.now.set c.put_back.new.forming.set c.form_next.new.forming.instances c.put_back.new.forming.instances c.put_back.result on
-          (ending_turn on.set c.in_ok-part.part on.is (sym c.ends_turns.ensures ∙ c.if-ends_turns.true)) (l.invariant.same_before ∙ c.set_aside-before.ensures.before) c.put_back.ensures.instances (c.put_back.ensures.adds shape);
-      exhausted = stopped_for_memory (rule_at r a.frame.now a.forming.now.path.items (tree.Iterate (rule_of a.body.now))) _ c.put_back.result c.put_back.ensures.stopped;
+          c.form_next.new.so_far c.in_ok-part.part c.joined-whole.result c.form_next.new.forming.instances on
+          (ending_turn on.set c.in_ok-part.part on.is (sym c.ends_turns.ensures ∙ c.if-ends_turns.true))
+          (c.joined-whole.ensures under.set on.set under.consistent under.is on.is);
+      exhausted = λ U stands consistent. tt;
     }
 
-pub form_turns-returns-in_err-part-clause-formed : goal.form_turns-returns-in_err-part-clause-formed
-form_turns-returns-in_err-part-clause-formed g t c =
+pub merge_turns-returns-in_err-part-clause-formed : goal.merge_turns-returns-in_err-part-clause-formed
+merge_turns-returns-in_err-part-clause-formed g t c =
     let a = c.args in
     let r = a.evaluation.now in
     let shape = evaluation_shape r in
     let l = c.loop-turn in
-    let under = l.invariant.underway in
     record {
-      count = search rules;
+      count = c.form_next.ensures.formed.count ∙ l.invariant.same_count;
+      so_far_count = search rules;
       path = search rules;
       formed = search rules;
-      exhausted = turn_stops shape r.turns (evaluation_choices r) (readings_of shape a.frame.now) (frame_locations shape a.frame.now) a.forming.now.path.items (evaluation_state r) _ _ _ _ r.turns (rule_of a.body.now) l.turn under
+      exhausted = λ U stands consistent.
+          let under = l.invariant.underway U stands consistent in
+          turn_stops shape r.turns (evaluation_choices r) (readings_of shape a.frame.now) (frame_locations shape a.frame.now) a.forming.now.path.items (evaluation_state r) U _ _ _ _ _ r.turns (rule_of a.body.now) l.turn under
           l.forming.path.items c.from.result l.invariant.same_path c.loop-turn-test.true c.from.ensures
           c.form_next.new.forming.path.items c.form_next.result c.from_residual.result c.in_err-part.field-0.0 c.in_err-part.was c.from_residual.ensures.1
-          (c.form_next.ensures.formed.exhausted under.set under.stands under.consistent);
+          (c.form_next.ensures.formed.exhausted (merge U under.set) under.stands (merge_laws.consistent U under.set consistent under.consistent));
     }
 
-pub form_turns-returns-clause-formed : goal.form_turns-returns-clause-formed
-form_turns-returns-clause-formed g t c =
+pub merge_turns-returns-clause-formed : goal.merge_turns-returns-clause-formed
+merge_turns-returns-clause-formed g t c =
     let a = c.args in
     let r = a.evaluation.now in
     let shape = evaluation_shape r in
     let l = c.loop-turn in
     record {
-      count = search rules;
-      path = search rules;
-      formed = search rules;
-      exhausted = turns_stop shape r.turns (evaluation_choices r) (readings_of shape a.frame.now) (frame_locations shape a.frame.now) a.forming.now.path.items (evaluation_state r) _ _ _ _ r.turns (rule_of a.body.now) l.turn l.invariant.underway c.loop-turn-test.false ∙ ap Exhausted (sym l.invariant.same_path);
+      count = l.invariant.same_count;
+      so_far_count = tt;
+      path = tt;
+      formed = λ U stands consistent. tt;
+      exhausted = λ U stands consistent.
+          turns_stop shape r.turns (evaluation_choices r) (readings_of shape a.frame.now) (frame_locations shape a.frame.now) a.forming.now.path.items (evaluation_state r) U _ _ _ _ _ r.turns (rule_of a.body.now) l.turn (l.invariant.underway U stands consistent) c.loop-turn-test.false ∙ ap Exhausted (sym l.invariant.same_path);
     }
 
 pub form-returns-in-Iterate-clause-formed : goal.form-returns-in-Iterate-clause-formed
@@ -451,56 +600,129 @@ form-returns-in-Iterate-clause-formed g t c =
 
 -- ---- values of a universe
 
+pub form_span-loop-i-init : goal.form_span-loop-i-init
+form_span-loop-i-init g t c =
+    let a = c.args in
+    let r = a.evaluation.now in
+    let shape = evaluation_shape r in
+    let us = universe_at shape a.over in
+    let passes = is_passing r.view.now a.frame.now a.test.now in
+    record {
+      ready = c.requires.ready;
+      same_count = refl;
+      same_path = refl;
+      left = left_begins shape r.turns (evaluation_choices r) (readings_of shape a.frame.now) (frame_locations shape a.frame.now) (evaluation_state r) a.forming.now.path.items passes (rule_of a.body.now) c.first_code-low.result a.from (between a.from a.to us) a.forming.now
+          (codes_between c.first_code-low.result c.universe-universe.result.now us c.first_code-low.ensures (universe_here shape.universes a.over c.universe-universe.result.now c.universe-universe.ensures) a.from a.to);
+    }
+
+pub form_span-loop-k-init : goal.form_span-loop-k-init
+form_span-loop-k-init g t c =
+    let a = c.args in
+    let r = a.evaluation.now in
+    let shape = evaluation_shape r in
+    let us = universe_at shape a.over in
+    let passes = is_passing r.view.now a.frame.now a.test.now in
+    let l = c.loop-i in
+    let same = universe_here shape.universes a.over c.universe-universe.result.now c.universe-universe.ensures in
+    record {
+      ready = l.invariant.ready;
+      same_count = l.invariant.same_count;
+      same_path = l.invariant.same_path;
+      left = left_same shape r.turns (evaluation_choices r) (readings_of shape a.frame.now) (frame_locations shape a.frame.now) (evaluation_state r) a.forming.now.path.items passes (rule_of a.body.now) c.first_code-low.result (span_at r a.frame.now a.forming.now.path.items a.over (option_map code_of a.test.now) (rule_of a.body.now) a.from a.to) a.forming.now l.forming _ _
+          (between_block passes l.i c.min-count.result a.to us (take c.min-count.result c.elements_from-elements.result) _ (omega (arith, c.min-count.ensures))
+          (c.elements_from-elements.ensures ∙ ap (λ vs. take c.min-count.result (drop l.i vs)) (sym same)) c.keep_passing-kept.ensures.kept)
+          l.invariant.left;
+    }
+
+pub form_span-overflow_sub-number : goal.form_span-overflow_sub-number
+form_span-overflow_sub-number g t c =
+    let a = c.args in
+    let r = a.evaluation.now in
+    let shape = evaluation_shape r in
+    let us = universe_at shape a.over in
+    let passes = is_passing r.view.now a.frame.now a.test.now in
+    let l = c.loop-k in
+    let v = value_of_code c.unbranded_code.result.value in
+    let others = drop (l.k + 1) (take c.keep_passing-kept.result c.keep_passing-kept.new.elements) ++ filter passes (between (c.loop-i.i + c.min-count.result) a.to us) in
+    let here = one_more l.k c.keep_passing-kept.result c.keep_passing-kept.new.elements (filter passes (between (c.loop-i.i + c.min-count.result) a.to us)) v c.index-elements-k.result c.loop-k-test.true (omega (arith, c.keep_passing-kept.ensures.few, c.min-count.ensures)) c.unbranded_code.ensures in
+    let under = left_same shape r.turns (evaluation_choices r) (readings_of shape a.frame.now) (frame_locations shape a.frame.now) (evaluation_state r) a.forming.now.path.items passes (rule_of a.body.now) c.first_code-low.result (span_at r a.frame.now a.forming.now.path.items a.over (option_map code_of a.test.now) (rule_of a.body.now) a.from a.to) a.forming.now l.forming _ (v ∷ others) here l.invariant.left in
+    let next = next_of shape r.turns (evaluation_choices r) (readings_of shape a.frame.now) (frame_locations shape a.frame.now) (evaluation_state r) a.forming.now.path.items passes (rule_of a.body.now) c.first_code-low.result (span_at r a.frame.now a.forming.now.path.items a.over (option_map code_of a.test.now) (rule_of a.body.now) a.from a.to) a.forming.now l.forming v others under in
+    omega (arith, next.code, ap values.code_of c.unbranded_code.ensures, c.code.ensures.code)
+
+pub form_span-loop-k-preserved : goal.form_span-loop-k-preserved
+form_span-loop-k-preserved g t c =
+    let a = c.args in
+    let r = a.evaluation.now in
+    let shape = evaluation_shape r in
+    let us = universe_at shape a.over in
+    let passes = is_passing r.view.now a.frame.now a.test.now in
+    let l = c.loop-k in
+    let v = value_of_code c.unbranded_code.result.value in
+    let others = drop (l.k + 1) (take c.keep_passing-kept.result c.keep_passing-kept.new.elements) ++ filter passes (between (c.loop-i.i + c.min-count.result) a.to us) in
+    let here = one_more l.k c.keep_passing-kept.result c.keep_passing-kept.new.elements (filter passes (between (c.loop-i.i + c.min-count.result) a.to us)) v c.index-elements-k.result c.loop-k-test.true (omega (arith, c.keep_passing-kept.ensures.few, c.min-count.ensures)) c.unbranded_code.ensures in
+    let under = left_same shape r.turns (evaluation_choices r) (readings_of shape a.frame.now) (frame_locations shape a.frame.now) (evaluation_state r) a.forming.now.path.items passes (rule_of a.body.now) c.first_code-low.result (span_at r a.frame.now a.forming.now.path.items a.over (option_map code_of a.test.now) (rule_of a.body.now) a.from a.to) a.forming.now l.forming _ (v ∷ others) here l.invariant.left in
+    let next = next_of shape r.turns (evaluation_choices r) (readings_of shape a.frame.now) (frame_locations shape a.frame.now) (evaluation_state r) a.forming.now.path.items passes (rule_of a.body.now) c.first_code-low.result (span_at r a.frame.now a.forming.now.path.items a.over (option_map code_of a.test.now) (rule_of a.body.now) a.from a.to) a.forming.now l.forming v others under in
+    let number : c.code.result - c.first_code-low.result ≡ next.place = omega (arith, next.code, ap values.code_of c.unbranded_code.ensures, c.code.ensures.code) in
+    record {
+      ready = c.in_ok-form_part.ensures.ready;
+      same_count = c.in_ok-form_part.ensures.formed.count ∙ l.invariant.same_count;
+      same_path = c.in_ok-form_part.ensures.formed.path ∙ l.invariant.same_path;
+      left = record {
+        place = suc next.place;
+        rest = next.rest;
+        left = next.left;
+        codes = next.codes;
+        follows = λ new result rest. under.follows new result (follows_same shape result _ _ _ _ (sym next.yields)
+            (follows_counted shape result _ _ _ _ refl refl c.saturating_add-forming.ensures
+            (follows_both shape tt result _ _ _ _ _
+            (follows_same shape _ _ _ _ _ (λ i. element_does r a.frame.now (l.invariant.same_path i) (number i) v a.body.now) c.in_ok-form_part.ensures.formed)
+            rest)));
+      };
+    }
+
 pub form_span-loop-i-preserved : goal.form_span-loop-i-preserved
 form_span-loop-i-preserved g t c =
     let a = c.args in
     let r = a.evaluation.now in
     let shape = evaluation_shape r in
-    let l = c.loop-i in
-    let test = c.loop-i-test.true in
     let us = universe_at shape a.over in
-    let there = value_here shape.universes a.over c.universe-universe.result.now l.i (value_of_code c.unbranded_code.result.value) c.universe-universe.ensures (c.element.ensures ∙ ap Some (sym c.unbranded_code.ensures)) in
-    elim c.if-passes.branch [
-      | form_span-then-passes+in_ok-form_part w ↦ rw w.forming-is (record {
-        ready = rw w.regions-is w.in_ok-form_part.ensures.ready;
-        same_count = w.in_ok-form_part.ensures.formed.count ∙ l.invariant.same_count;
-        same_path = w.in_ok-form_part.ensures.formed.path ∙ l.invariant.same_path;
-        follows = λ new result rest. l.invariant.follows new result (follows_same shape result _ _ _ _
-            (element_yields shape r.turns (evaluation_choices r) (readings_of shape a.frame.now) (frame_locations shape a.frame.now) (evaluation_state r) a.forming.now.path.items a.over (option_map code_of a.test.now) a.body.now a.to us l.i (value_of_code c.unbranded_code.result.value) test there (sym w.if-passes.true ∙ c.passes.ensures))
-            (follows_counted shape result _ _ _ _ refl refl w.saturating_add-forming.ensures
-            (follows_both shape tt result _ _ _ _ _
-            (follows_same shape _ _ _ _ _ (ap (λ q. element_does r a.frame.now q l.i (value_of_code c.unbranded_code.result.value) a.body.now) l.invariant.same_path) w.in_ok-form_part.ensures.formed)
-            rest)));
-      })
-      | form_span-else-passes w ↦ rw w.forming-is (record {
-        ready = rw w.regions-is l.invariant.ready;
-        same_count = l.invariant.same_count;
-        same_path = l.invariant.same_path;
-        follows = λ new result rest. l.invariant.follows new result (follows_same shape result _ _ _ _
-            (passed_yields shape r.turns (evaluation_choices r) (readings_of shape a.frame.now) (frame_locations shape a.frame.now) (evaluation_state r) a.forming.now.path.items a.over (option_map code_of a.test.now) a.body.now a.to us l.i (value_of_code c.unbranded_code.result.value) test there (sym w.if-passes.false ∙ c.passes.ensures))
-            rest);
-      })
-    ]
+    let passes = is_passing r.view.now a.frame.now a.test.now in
+    let l = c.loop-k in
+    record {
+      ready = l.invariant.ready;
+      same_count = l.invariant.same_count;
+      same_path = l.invariant.same_path;
+      left = left_same shape r.turns (evaluation_choices r) (readings_of shape a.frame.now) (frame_locations shape a.frame.now) (evaluation_state r) a.forming.now.path.items passes (rule_of a.body.now) c.first_code-low.result (span_at r a.frame.now a.forming.now.path.items a.over (option_map code_of a.test.now) (rule_of a.body.now) a.from a.to) a.forming.now l.forming _ _ (none_more l.k c.keep_passing-kept.result c.keep_passing-kept.new.elements _ c.loop-k-test.false) l.invariant.left;
+    }
 
 pub form_span-returns-clause-formed : goal.form_span-returns-clause-formed
 form_span-returns-clause-formed g t c =
     let a = c.args in
     let r = a.evaluation.now in
     let shape = evaluation_shape r in
+    let us = universe_at shape a.over in
+    let passes = is_passing r.view.now a.frame.now a.test.now in
     let l = c.loop-i in
-    l.invariant.follows _ _ (follows_nothing shape tt _ _ (no_element_yields shape r.turns (evaluation_choices r) (readings_of shape a.frame.now) (frame_locations shape a.frame.now) (evaluation_state r) a.forming.now.path.items a.over (option_map code_of a.test.now) a.body.now a.to (universe_at shape a.over) l.i (omega arith)))
+    let under = left_same shape r.turns (evaluation_choices r) (readings_of shape a.frame.now) (frame_locations shape a.frame.now) (evaluation_state r) a.forming.now.path.items passes (rule_of a.body.now) c.first_code-low.result (span_at r a.frame.now a.forming.now.path.items a.over (option_map code_of a.test.now) (rule_of a.body.now) a.from a.to) a.forming.now l.forming _ [] (none_between passes l.i a.to us c.loop-i-test.false) l.invariant.left in
+    under.follows _ _ (follows_nothing shape tt _ _ (sym (left_ends shape r.turns (evaluation_choices r) (readings_of shape a.frame.now) (frame_locations shape a.frame.now) (evaluation_state r) a.forming.now.path.items passes (rule_of a.body.now) c.first_code-low.result (span_at r a.frame.now a.forming.now.path.items a.over (option_map code_of a.test.now) (rule_of a.body.now) a.from a.to) a.forming.now l.forming under)))
 
 pub form_span-returns-in_err-form_part-clause-formed : goal.form_span-returns-in_err-form_part-clause-formed
 form_span-returns-in_err-form_part-clause-formed g t c =
     let a = c.args in
     let r = a.evaluation.now in
     let shape = evaluation_shape r in
-    let l = c.loop-i in
-    let there = value_here shape.universes a.over c.universe-universe.result.now l.i (value_of_code c.unbranded_code.result.value) c.universe-universe.ensures (c.element.ensures ∙ ap Some (sym c.unbranded_code.ensures)) in
+    let us = universe_at shape a.over in
+    let passes = is_passing r.view.now a.frame.now a.test.now in
+    let l = c.loop-k in
+    let v = value_of_code c.unbranded_code.result.value in
+    let others = drop (l.k + 1) (take c.keep_passing-kept.result c.keep_passing-kept.new.elements) ++ filter passes (between (c.loop-i.i + c.min-count.result) a.to us) in
+    let here = one_more l.k c.keep_passing-kept.result c.keep_passing-kept.new.elements (filter passes (between (c.loop-i.i + c.min-count.result) a.to us)) v c.index-elements-k.result c.loop-k-test.true (omega (arith, c.keep_passing-kept.ensures.few, c.min-count.ensures)) c.unbranded_code.ensures in
+    let under = left_same shape r.turns (evaluation_choices r) (readings_of shape a.frame.now) (frame_locations shape a.frame.now) (evaluation_state r) a.forming.now.path.items passes (rule_of a.body.now) c.first_code-low.result (span_at r a.frame.now a.forming.now.path.items a.over (option_map code_of a.test.now) (rule_of a.body.now) a.from a.to) a.forming.now l.forming _ (v ∷ others) here l.invariant.left in
+    let next = next_of shape r.turns (evaluation_choices r) (readings_of shape a.frame.now) (frame_locations shape a.frame.now) (evaluation_state r) a.forming.now.path.items passes (rule_of a.body.now) c.first_code-low.result (span_at r a.frame.now a.forming.now.path.items a.over (option_map code_of a.test.now) (rule_of a.body.now) a.from a.to) a.forming.now l.forming v others under in
+    let number : c.code.result - c.first_code-low.result ≡ next.place = omega (arith, next.code, ap values.code_of c.unbranded_code.ensures, c.code.ensures.code) in
     let residual = c.from_residual in
-    l.invariant.follows _ _ (follows_stopped shape c.form_part.result residual.result c.in_err-form_part.field-0.0 _ _ _ _ _ refl c.in_err-form_part.was residual.ensures.1
-    (λ last ends. exhausted_element_yields shape r.turns (evaluation_choices r) (readings_of shape a.frame.now) (frame_locations shape a.frame.now) (evaluation_state r) a.forming.now.path.items a.over (option_map code_of a.test.now) a.body.now a.to (universe_at shape a.over) l.i (value_of_code c.unbranded_code.result.value) last c.loop-i-test.true there (sym c.if-passes.true ∙ c.passes.ensures)
-    (sym (ap (λ q. (element_does r a.frame.now q l.i (value_of_code c.unbranded_code.result.value) a.body.now).result) l.invariant.same_path) ∙ ends))
+    under.follows _ _ (follows_stopped shape c.form_part.result residual.result c.in_err-form_part.field-0.0 _ _ _ _ _ refl c.in_err-form_part.was residual.ensures.1
+    (λ last ends. next.stops last (sym (λ i. (element_does r a.frame.now (l.invariant.same_path i) (number i) v a.body.now).result) ∙ ends))
     c.form_part.ensures.formed)
 
 pub form-returns-in-Left-2-clause-formed : goal.form-returns-in-Left-2-clause-formed

@@ -1,4 +1,6 @@
-use Rattle.std.proofs.Common.{◌≡◌, ◌||◌, ◌≤◌, ◌<◌, ◌&&◌, List, [], length, map, Some, refl, sym, ap, subst, ◌∙◌, arith}
+use Rattle.std.proofs.Common.{◌≡◌, ◌||◌, ◌≤◌, ◌<◌, ◌&&◌, ◌∷◌, List, [], length, map, take, filter, Some, refl, sym, ap, subst, ◌∙◌, arith}
+use Rattle.std.specs.Prelude.{slice_index_or}
+use Rattle.asm_state.specs.declared.value.Value.TheVariants.{Undef}
 use Rattle.asm_meaning.specs.Value as spec
 use Rattle.asm_state.specs.Operation.{op}
 use Rattle.asm_state.specs.declared.operation.Op.{Op}
@@ -7,28 +9,33 @@ use Rattle.asm_state.specs.declared.value.Value.TheVariants.{Number}
 use Rattle.asm_state.specs.Words.{value_of_code}
 use Rattle.asm_meaning.specs.code.TermValues.{shown}
 use Rattle.asm_code.specs.code.CodeViews.{code_of}
-use Rattle.asm_code.specs.code.Readings.{at_position, reading}
+use Rattle.asm_code.specs.code.Readings.{always, at_position, reading}
 use Rattle.asm_code.specs.code.Sizes.{size, sizes}
 use Rattle.asm_code.specs.code.SoundCodes.{IsSound, AreSound, count}
 use Rattle.asm_code.specs.code.CodeViews.{codes_of, link_of, links_of}
 use Rattle.asm_code.specs.declared.code.Code.{Code}
 use Rattle.asm_eval.specs.code.FrameBindings.{binding_load, IsSoundBinding}
 use Rattle.asm_eval.specs.code.Frames.{AllSound, bound_value, code_value, frame_size, readings_of}
-use Rattle.std.specs.List.{list_all}
+use Rattle.std.specs.List.{list_any, list_all}
+use Rattle.asm_state.specs.declared.value.Value.{Value}
 use Rattle.std.proofs.lemmas.Grind.{common_steps}
-use Rattle.std.proofs.lemmas.List.{append-nil, take_all}
+use Rattle.std.proofs.lemmas.List.{append-nil, take_all, drop_all, length-set}
+use Rattle.std.proofs.lemmas.List.Elements.{filter_agree}
 use Rattle.std.proofs.lemmas.List.Folds.{list_all_at}
 use Rattle.asm_code.specs.code.CodeTree as tree
-use Rattle.asm_code.proofs.CodeForms.{code_laws-count_of_codes as count_of_codes, code_laws-every_form as every_form, code_laws-exists_form as exists_form, code_laws-held_form as held_form}
+use Rattle.asm_code.proofs.CodeForms.{code_laws-count_of_codes as count_of_codes, code_laws-every_form as every_form, code_laws-exists_form as exists_form, code_laws-held_form as held_form, code_laws-local_form as local_form, code_laws-chain_form as chain_form}
 use Rattle.asm_eval.proofs.AndChains.{not_holds, not_of, both_or, or_false, or_neither, or_true, both_and, chain_true, holds_in}
 use Rattle.asm_eval.proofs.Arguments.{all_valued}
-use Rattle.asm_eval.proofs.ValueCases.{of_constant, of_local, of_cell, with_is, turned_is, one_is, two_is, both_is, row_is, grid_is, chain_begins, chain_ends, chain_goes_on, of_held, of_derived}
+use Rattle.asm_eval.proofs.ValueCases.{of_constant, of_local, of_cell, local_first, local_later, with_is, turned_is, one_is, two_is, both_is, row_is, grid_is, chain_begins, chain_ends, chain_goes_on, of_held, of_derived}
 use Rattle.asm_eval.specs.code.AndChains.{is_false}
 use Rattle.asm_eval.proofs.Members.{size_within, sound_within, link_size_within, link_sound_within, sizes_some, sizes_parts, sound_parts}
 use Rattle.asm_eval.proofs.BoundValues.{alone_bound, lasts_bound, values_are}
 use Rattle.asm_eval.proofs.FramePositions.{within_values}
-use Rattle.asm_eval.proofs.Quantified.{passes, none_more, all_more, exists_at, fails_at, exists_past, every_past}
+use Rattle.asm_eval.proofs.Quantified.{passes, none_more, all_more, exists_at, fails_at, exists_past, every_past, exists_further, every_further}
+use Rattle.asm_eval.specs.code.Blocks.{at, holds_for, value_for}
+use Rattle.asm_eval.proofs.BlockLemmas.{each_more, keeps_more, keeps_less, read_at, filter_twice, one_test_more, and_nothing, any_in_block, none_in_block, some_fails_in_block, all_in_block}
 use Rattle.asm_eval.proofs.value.+value.Goals as goal
+use Rattle.asm_eval.proofs.value.+value.Goals.{keep_singly-then-holds, keep_singly-else-holds}
 
 pub value-returns-in-Constant : goal.value-returns-in-Constant
 value-returns-in-Constant t c = let a = c.args in of_constant a.view.now.signature.now (readings_of a.view.now.signature.now a.frame.now) (shown a.view.now) a.code.now c.in-Constant.value c.in-Constant.is
@@ -199,10 +206,16 @@ every-loop-i-preserved t c =
     let passed = sym c.holds-tested.ensures ∙ c.if-not-tested.false in
     all_more (passes a.view.now.signature.now (readings_of a.view.now.signature.now a.frame.now) (shown a.view.now) a.over (code_of a.test.now)) c.universe-universe.result.now c.loop-i.i (value_of_code c.unbranded_code.result.value) (c.element.ensures ∙ ap Some (sym c.unbranded_code.ensures)) c.loop-i.invariant passed
 
+pub every-returns-then-alone-size : goal.every-returns-then-alone-size
+every-returns-then-alone-size t c =
+    let a = c.args in
+    every_past a.view.now.signature.now (readings_of a.view.now.signature.now a.frame.now) (shown a.view.now) a.over (code_of a.test.now) c.universe-universe.result.now c.loop-i.i c.universe-universe.ensures (omega (arith, c.size-size.ensures.size)) c.loop-i.invariant
+
 pub every-returns : goal.every-returns
 every-returns t c =
     let a = c.args in
-    every_past a.view.now.signature.now (readings_of a.view.now.signature.now a.frame.now) (shown a.view.now) a.over (code_of a.test.now) c.universe-universe.result.now c.loop-i.i c.universe-universe.ensures (omega (arith, c.size-i-end.ensures.size)) c.loop-i.invariant
+    every_further a.view.now.signature.now (readings_of a.view.now.signature.now a.frame.now) (shown a.view.now) a.over (code_of a.test.now) c.universe-universe.result.now c.loop-i.i c.alone_of-alone.result c.every_from.result
+    c.universe-universe.ensures (omega arith) c.loop-i.invariant c.every_from.ensures
 
 pub exists-returns-then-tested : goal.exists-returns-then-tested
 exists-returns-then-tested t c =
@@ -216,10 +229,16 @@ exists-loop-i-preserved t c =
     let fails = sym c.holds-tested.ensures ∙ c.if-tested.false in
     none_more (passes a.view.now.signature.now (readings_of a.view.now.signature.now a.frame.now) (shown a.view.now) a.over (code_of a.test.now)) c.universe-universe.result.now c.loop-i.i (value_of_code c.unbranded_code.result.value) (c.element.ensures ∙ ap Some (sym c.unbranded_code.ensures)) c.loop-i.invariant fails
 
+pub exists-returns-then-alone-size : goal.exists-returns-then-alone-size
+exists-returns-then-alone-size t c =
+    let a = c.args in
+    exists_past a.view.now.signature.now (readings_of a.view.now.signature.now a.frame.now) (shown a.view.now) a.over (code_of a.test.now) c.universe-universe.result.now c.loop-i.i c.universe-universe.ensures (omega (arith, c.size-size.ensures.size)) c.loop-i.invariant
+
 pub exists-returns : goal.exists-returns
 exists-returns t c =
     let a = c.args in
-    exists_past a.view.now.signature.now (readings_of a.view.now.signature.now a.frame.now) (shown a.view.now) a.over (code_of a.test.now) c.universe-universe.result.now c.loop-i.i c.universe-universe.ensures (omega (arith, c.size-i-end.ensures.size)) c.loop-i.invariant
+    exists_further a.view.now.signature.now (readings_of a.view.now.signature.now a.frame.now) (shown a.view.now) a.over (code_of a.test.now) c.universe-universe.result.now c.loop-i.i c.alone_of-alone.result c.exists_from.result
+    c.universe-universe.ensures (omega arith) c.loop-i.invariant c.exists_from.ensures
 
 pub derived-returns : goal.derived-returns
 derived-returns t c =
@@ -413,3 +432,311 @@ all_hold-returns t c =
     let first = sym c.holds.ensures ∙ c.if-not-holds.false in
     let more = ap (list_all (holds_in shape rs A)) (sym (take_all c.loop-i.i a.rest.now (omega arith))) ∙ c.loop-i.invariant in
     sym (chain_true shape rs A (code_of a.first.now) a.rest.now c.requires.ands ∙ (λ i. first i && more i))
+
+-- ---- blocks
+
+pub values-returns-in-Constant : goal.values-returns-in-Constant
+values-returns-in-Constant t c k low =
+    let a = c.args in
+    let shape = a.view.now.signature.now in
+    let rs = readings_of shape a.frame.now in
+    let A = shown a.view.now in
+    c.fill.ensures k (omega (arith, low, c.requires.few)) ∙ of_constant shape (always (at a.elements.now k) ∷ rs) A a.code.now c.in-Constant.value c.in-Constant.is
+
+pub values-returns-in-Local : goal.values-returns-in-Local
+values-returns-in-Local t c k low =
+    let a = c.args in
+    let shape = a.view.now.signature.now in
+    let rs = readings_of shape a.frame.now in
+    let A = shown a.view.now in
+    c.local_values.ensures k (omega (arith, low, c.requires.few)) ∙ ap (λ t. value_for a.view.now a.frame.now t (at a.elements.now k)) (sym (local_form a.code.now c.in-Local.position c.in-Local.is))
+
+pub values-returns-in-Cell : goal.values-returns-in-Cell
+values-returns-in-Cell t c k low =
+    let a = c.args in
+    let shape = a.view.now.signature.now in
+    let rs = readings_of shape a.frame.now in
+    let A = shown a.view.now in
+    c.fill-in-Cell.ensures k (omega (arith, low, c.requires.few)) ∙ of_cell shape (always (at a.elements.now k) ∷ rs) A a.code.now c.in-Cell.n c.cell_by_call.result c.in-Cell.is c.cell_by_call.ensures
+
+pub local_values-returns-then-position-eq0 : goal.local_values-returns-then-position-eq0
+local_values-returns-then-position-eq0 t c k low =
+    let a = c.args in
+    let shape = a.view.now.signature.now in
+    let rs = readings_of shape a.frame.now in
+    let A = shown a.view.now in
+    local_first shape rs A (at a.elements.now k) a.position c.if-position-eq0.true
+
+pub local_values-returns : goal.local_values-returns
+local_values-returns t c k low =
+    let a = c.args in
+    let shape = a.view.now.signature.now in
+    let rs = readings_of shape a.frame.now in
+    let A = shown a.view.now in
+    c.fill.ensures k low ∙ local_later shape rs A (at a.elements.now k) c.local_by_call-content.result a.position (omega arith) c.local_by_call-content.ensures
+
+pub row_values-returns : goal.row_values-returns
+row_values-returns t c k low =
+    let a = c.args in
+    let shape = a.view.now.signature.now in
+    let rs = readings_of shape a.frame.now in
+    let A = shown a.view.now in
+    row_is shape (always (at a.elements.now k) ∷ rs) A a.first a.over.low a.over.count (code_of a.argument.now) (at c.values.new.out k) (at c.rows_at.new.values k) (c.values.ensures k low) (c.rows_at.ensures k low)
+
+pub grid_values-returns : goal.grid_values-returns
+grid_values-returns t c k low =
+    let a = c.args in
+    let shape = a.view.now.signature.now in
+    let rs = readings_of shape a.frame.now in
+    let A = shown a.view.now in
+    grid_is shape (always (at a.elements.now k) ∷ rs) A a.place.now.first a.place.now.rows.low a.place.now.rows.count a.place.now.columns.low a.place.now.columns.count (code_of a.row.now) (code_of a.column.now) (at c.values.new.out k) (at c.values-2.new.out k) (at c.grids_at.new.values k) (c.values.ensures k low) (c.values-2.ensures k low) (c.grids_at.ensures k low)
+
+pub with_values-returns : goal.with_values-returns
+with_values-returns t c k low =
+    let a = c.args in
+    let shape = a.view.now.signature.now in
+    let rs = readings_of shape a.frame.now in
+    let A = shown a.view.now in
+    with_is shape (always (at a.elements.now k) ∷ rs) A a.operation (code_of a.left.now) a.right (at c.values.new.out k) (at c.apply_each.new.values k) (c.values.ensures k low) (c.apply_each.ensures k low)
+
+pub plus_values-returns : goal.plus_values-returns
+plus_values-returns t c k low =
+    let a = c.args in
+    let shape = a.view.now.signature.now in
+    let rs = readings_of shape a.frame.now in
+    let A = shown a.view.now in
+    with_is shape (always (at a.elements.now k) ∷ rs) A Add (code_of a.left.now) (Number a.right) (at c.values.new.out k) (at c.add_each.new.values k) (c.values.ensures k low) (c.add_each.ensures k low)
+
+pub modulo_values-returns : goal.modulo_values-returns
+modulo_values-returns t c k low =
+    let a = c.args in
+    let shape = a.view.now.signature.now in
+    let rs = readings_of shape a.frame.now in
+    let A = shown a.view.now in
+    with_is shape (always (at a.elements.now k) ∷ rs) A Remainder (code_of a.left.now) (Number a.right.number) (at c.values.new.out k) (at c.remainder_of_each.new.values k) (c.values.ensures k low) (c.remainder_of_each.ensures k low)
+
+pub equals_values-returns : goal.equals_values-returns
+equals_values-returns t c k low =
+    let a = c.args in
+    let shape = a.view.now.signature.now in
+    let rs = readings_of shape a.frame.now in
+    let A = shown a.view.now in
+    with_is shape (always (at a.elements.now k) ∷ rs) A Equal (code_of a.left.now) a.right (at c.values.new.out k) (at c.equal_each.new.values k) (c.values.ensures k low) (c.equal_each.ensures k low)
+
+pub plus_modulo_values-returns : goal.plus_modulo_values-returns
+plus_modulo_values-returns t c k low =
+    let a = c.args in
+    let shape = a.view.now.signature.now in
+    let rs = readings_of shape a.frame.now in
+    let A = shown a.view.now in
+    turned_is shape (always (at a.elements.now k) ∷ rs) A (code_of a.left.now) (Number a.by) (Number a.over.number) (at c.values.new.out k) (at c.add_each.new.values k) (at c.remainder_of_each.new.values k) (c.values.ensures k low) (c.add_each.ensures k low) (c.remainder_of_each.ensures k low)
+
+pub both_values-returns : goal.both_values-returns
+both_values-returns t c k low =
+    let a = c.args in
+    let shape = a.view.now.signature.now in
+    let rs = readings_of shape a.frame.now in
+    let A = shown a.view.now in
+    both_is shape (always (at a.elements.now k) ∷ rs) A a.operation (code_of a.left.now) (code_of a.right.now) (at c.values.new.out k) (at c.values-2.new.out k) (at c.apply_to_pairs.new.values k) (c.values.ensures k low) (c.values-2.ensures k low) (c.apply_to_pairs.ensures k low)
+
+pub chain_values-loop-i-init : goal.chain_values-loop-i-init
+chain_values-loop-i-init t c k low =
+    let a = c.args in
+    let shape = a.view.now.signature.now in
+    let rs = readings_of shape a.frame.now in
+    let A = shown a.view.now in
+    chain_begins shape (always (at a.elements.now k) ∷ rs) A (code_of a.first.now) (links_of (map link_of a.rest.now)) (at c.values.new.out k) (c.values.ensures k low)
+
+pub chain_values-values-requires-in-loop-i : goal.chain_values-values-requires-in-loop-i
+chain_values-values-requires-in-loop-i t c =
+    let a = c.args in
+    let shape = a.view.now.signature.now in
+    let rs = readings_of shape a.frame.now in
+    let A = shown a.view.now in
+    let small = link_size_within a.rest.now c.loop-i.i c.index-rest-i.result c.loop-i-test.true c.index-rest-i.is in
+    let same = ap (λ (l : Op × Code). size (code_of l.1)) c.index-rest-i.is in
+    let sound = link_sound_within shape a.rest.now c.loop-i.i c.index-rest-i.result c.loop-i-test.true c.index-rest-i.is c.requires.rest in
+    (omega (arith, c.decreases, small, same), (c.requires.few, (subst (λ (l : Op × Code). IsSound shape (code_of l.1)) c.index-rest-i.is sound, c.requires.framed)))
+
+pub chain_values-loop-i-preserved : goal.chain_values-loop-i-preserved
+chain_values-loop-i-preserved t c k low =
+    let a = c.args in
+    let shape = a.view.now.signature.now in
+    let rs = readings_of shape a.frame.now in
+    let A = shown a.view.now in
+    let same = sym c.index-rest-i.is in
+    let before = at c.loop-i.out k in
+    let other = at c.values-in-loop-i.new.out k in
+    chain_goes_on shape (always (at a.elements.now k) ∷ rs) A a.rest.now c.loop-i.i c.index-rest-i.result
+    before other (at c.apply_to_pairs.new.values k) _ c.loop-i-test.true c.index-rest-i.is (c.loop-i.invariant k low)
+    (c.values-in-loop-i.ensures k low ∙ ap (λ (l : Op × Code). value_for a.view.now a.frame.now (code_of l.1) (at a.elements.now k)) same)
+    (c.apply_to_pairs.ensures k low ∙ ap (λ (l : Op × Code). op l.0 before other) (read_at c.index-rest-i.result a.rest.now c.loop-i.i c.index-rest-i-in-loop-i.result c.loop-i-test.true ∙ same))
+
+pub chain_values-returns : goal.chain_values-returns
+chain_values-returns t c k low =
+    let a = c.args in
+    let shape = a.view.now.signature.now in
+    let rs = readings_of shape a.frame.now in
+    let A = shown a.view.now in
+    chain_ends shape (always (at a.elements.now k) ∷ rs) A a.rest.now c.loop-i.i (at c.loop-i.out k) _ (omega arith) (c.loop-i.invariant k low)
+
+pub values_singly-loop-k-preserved : goal.values_singly-loop-k-preserved
+values_singly-loop-k-preserved t c =
+    let a = c.args in
+    let shape = a.view.now.signature.now in
+    let rs = readings_of shape a.frame.now in
+    let A = shown a.view.now in
+    let l = c.loop-k in
+    let low : l.k < 16 = omega (arith, c.requires.few) in
+    let read = read_at Undef a.elements.now l.k c.index-elements-k.result (omega (arith, low)) in
+    each_more Undef (λ k v. value_for a.view.now a.frame.now (code_of a.code.now) (at a.elements.now k)) _ l.out l.k c.value.result l.invariant low
+    (c.value.ensures ∙ ap (value_for a.view.now a.frame.now (code_of a.code.now)) (c.unbranded_code.ensures ∙ read))
+
+pub keep_singly-loop-k-preserved : goal.keep_singly-loop-k-preserved
+keep_singly-loop-k-preserved t c =
+    let a = c.args in
+    let shape = a.view.now.signature.now in
+    let rs = readings_of shape a.frame.now in
+    let A = shown a.view.now in
+    let l = c.loop-k in
+    let low : l.k < 16 = omega (arith, c.requires.few) in
+    let read = read_at Undef l.elements l.k c.index-elements-k.result (omega (arith, low, l.invariant.room)) in
+    let p = holds_for a.view.now a.frame.now (code_of a.code.now) in
+    let test = ap p (sym (l.invariant.so_far.rest l.k (omega arith)) ∙ sym read ∙ sym c.unbranded_code.ensures) ∙ sym c.holds.ensures in
+    elim c.if-holds.branch [
+      | keep_singly-then-holds w ↦ rw (w.elements-is, w.kept-is) (record {
+        room = length-set l.elements l.kept (slice_index_or l.elements l.k c.index-elements-k.result) ∙ l.invariant.room;
+        behind = omega arith;
+        so_far = keeps_more Undef p _ l.elements l.kept l.k l.invariant.so_far (omega (arith, low)) (test ∙ w.if-holds.true)
+            (slice_index_or l.elements l.k c.index-elements-k.result) read (omega (arith, low, l.invariant.room, l.invariant.behind)) l.invariant.behind;
+      })
+      | keep_singly-else-holds w ↦ rw (w.elements-is, w.kept-is) (record {
+        room = l.invariant.room;
+        behind = omega arith;
+        so_far = keeps_less Undef p _ l.elements l.kept l.k l.invariant.so_far (omega (arith, low)) (test ∙ w.if-holds.false);
+      })
+    ]
+
+pub keep_valued-returns-clause-kept : goal.keep_valued-returns-clause-kept
+keep_valued-returns-clause-kept t c =
+    let a = c.args in
+    c.keep_tested.ensures.kept (holds_for a.view.now a.frame.now (code_of a.code.now)) (λ k low. ap spec.is_true (c.values.ensures k low))
+
+pub keep_holding-returns-in-Chain-clause-kept : goal.keep_holding-returns-in-Chain-clause-kept
+keep_holding-returns-in-Chain-clause-kept t c =
+    let a = c.args in
+    c.keep_chain.ensures.kept
+    ∙ ap (λ k. filter (holds_for a.view.now a.frame.now k) (take a.count a.elements.now))
+    ((λ i. tree.Chain (code_of (c.deref-in-Chain.ensures i)) (links_of (map link_of (c.as_slice.ensures.value i)))) ∙ sym (chain_form a.code.now c.in-Chain.first c.in-Chain.rest c.in-Chain.is))
+
+pub keep_chain-returns-clause-kept : goal.keep_chain-returns-clause-kept
+keep_chain-returns-clause-kept t c =
+    let a = c.args in
+    c.keep_tested.ensures.kept (holds_for a.view.now a.frame.now (tree.Chain (code_of a.first.now) (links_of (map link_of a.rest.now)))) (λ k low. ap spec.is_true (c.chain_values.ensures k low))
+
+pub keep_both-returns-clause-kept : goal.keep_both-returns-clause-kept
+keep_both-returns-clause-kept t c =
+    let a = c.args in
+    let shape = a.view.now.signature.now in
+    let rs = readings_of shape a.frame.now in
+    let A = shown a.view.now in
+    let p = holds_for a.view.now a.frame.now (code_of a.left.now) in
+    let q = holds_for a.view.now a.frame.now (code_of a.right.now) in
+    let es = take a.count a.elements.now in
+    c.keep_holding.ensures.kept ∙ ap (filter q) c.keep_holding-kept.ensures.kept ∙ filter_twice p q es
+    ∙ filter_agree _ _ (λ v. sym (both_and shape (always v ∷ rs) A (code_of a.left.now) (code_of a.right.now))) es
+
+pub keep_ands-loop-i-init : goal.keep_ands-loop-i-init
+keep_ands-loop-i-init t c =
+    let a = c.args in
+    let shape = a.view.now.signature.now in
+    let rs = readings_of shape a.frame.now in
+    let A = shown a.view.now in
+    record {
+      few = c.keep_holding-kept.ensures.few;
+      room = c.keep_holding-kept.ensures.room;
+      kept = c.keep_holding-kept.ensures.kept ∙ filter_agree _ _ (λ v. and_nothing (holds_for a.view.now a.frame.now (code_of a.first.now) v)) (take a.count a.elements.now);
+    }
+
+pub keep_ands-keep_holding-kept-requires-in-loop-i : goal.keep_ands-keep_holding-kept-requires-in-loop-i
+keep_ands-keep_holding-kept-requires-in-loop-i t c =
+    let a = c.args in
+    let shape = a.view.now.signature.now in
+    let rs = readings_of shape a.frame.now in
+    let A = shown a.view.now in
+    let small = link_size_within a.rest.now c.loop-i.i c.index-rest-i.result c.loop-i-test.true c.index-rest-i.is in
+    let same = ap (λ (l : Op × Code). size (code_of l.1)) c.index-rest-i.is in
+    let sound = link_sound_within shape a.rest.now c.loop-i.i c.index-rest-i.result c.loop-i-test.true c.index-rest-i.is c.requires.rest in
+    (omega (arith, c.decreases, small, same), (omega (arith, c.requires.few, c.loop-i.invariant.few), (subst (λ (l : Op × Code). IsSound shape (code_of l.1)) c.index-rest-i.is sound, c.requires.framed)))
+
+pub keep_ands-loop-i-preserved : goal.keep_ands-loop-i-preserved
+keep_ands-loop-i-preserved t c =
+    let a = c.args in
+    let l = c.loop-i in
+    let h = λ (link : Op × Code) (v : Value). holds_for a.view.now a.frame.now (code_of link.1) v in
+    let same = sym c.index-rest-i.is in
+    record {
+      few = omega (arith, c.keep_holding-kept-in-loop-i.ensures.few, l.invariant.few);
+      room = c.keep_holding-kept-in-loop-i.ensures.room;
+      kept = c.keep_holding-kept-in-loop-i.ensures.kept ∙ ap (λ (link : Op × Code). filter (h link) (take l.kept l.elements)) same ∙ ap (filter (h c.index-rest-i.result)) l.invariant.kept
+          ∙ one_test_more h (holds_for a.view.now a.frame.now (code_of a.first.now)) a.rest.now l.i c.index-rest-i.result (take a.count a.elements.now) c.loop-i-test.true c.index-rest-i.is;
+    }
+
+pub keep_ands-returns-clause-kept : goal.keep_ands-returns-clause-kept
+keep_ands-returns-clause-kept t c =
+    let a = c.args in
+    let shape = a.view.now.signature.now in
+    let rs = readings_of shape a.frame.now in
+    let A = shown a.view.now in
+    let all = take_all c.loop-i.i a.rest.now (omega arith) in
+    c.loop-i.invariant.kept
+    ∙ filter_agree _ _ (λ v. ap (λ links. holds_for a.view.now a.frame.now (code_of a.first.now) v && list_all (holds_in shape (always v ∷ rs) A) links) all
+    ∙ sym (chain_true shape (always v ∷ rs) A (code_of a.first.now) a.rest.now c.requires.ands)) (take a.count a.elements.now)
+
+pub exists_from-loop-i-init : goal.exists_from-loop-i-init
+exists_from-loop-i-init t c = refl
+
+pub exists_from-loop-i-preserved : goal.exists_from-loop-i-preserved
+exists_from-loop-i-preserved t c =
+    let a = c.args in
+    let l = c.loop-i in
+    let p = holds_for a.view.now a.frame.now (code_of a.test.now) in
+    l.invariant ∙ none_in_block p l.i c.min-count.result c.keep_holding.result a.universe.now c.elements_from-elements.result c.keep_holding.new.elements c.elements_from-elements.ensures c.keep_holding.ensures.kept (omega (arith, c.keep_holding.ensures.few, c.keep_holding.ensures.room, c.min-count.ensures)) (omega (arith, c.if-keep_holding-gt0.false))
+
+pub exists_from-returns-then-keep_holding-gt0 : goal.exists_from-returns-then-keep_holding-gt0
+exists_from-returns-then-keep_holding-gt0 t c =
+    let a = c.args in
+    let l = c.loop-i in
+    let p = holds_for a.view.now a.frame.now (code_of a.test.now) in
+    sym (l.invariant ∙ any_in_block p l.i c.min-count.result c.keep_holding.result a.universe.now c.elements_from-elements.result c.keep_holding.new.elements c.elements_from-elements.ensures c.keep_holding.ensures.kept (omega (arith, c.keep_holding.ensures.few, c.keep_holding.ensures.room, c.min-count.ensures)) c.if-keep_holding-gt0.true)
+
+pub exists_from-returns : goal.exists_from-returns
+exists_from-returns t c =
+    let a = c.args in
+    let l = c.loop-i in
+    let p = holds_for a.view.now a.frame.now (code_of a.test.now) in
+    sym (l.invariant ∙ ap (list_any p) (drop_all l.i a.universe.now (omega (arith, c.size-size.ensures.size))))
+
+pub every_from-loop-i-init : goal.every_from-loop-i-init
+every_from-loop-i-init t c = refl
+
+pub every_from-loop-i-preserved : goal.every_from-loop-i-preserved
+every_from-loop-i-preserved t c =
+    let a = c.args in
+    let l = c.loop-i in
+    let p = holds_for a.view.now a.frame.now (code_of a.test.now) in
+    l.invariant ∙ all_in_block p l.i c.min-count.result c.keep_holding.result a.universe.now c.elements_from-elements.result c.keep_holding.new.elements c.elements_from-elements.ensures c.keep_holding.ensures.kept (omega (arith, c.keep_holding.ensures.few, c.keep_holding.ensures.room, c.min-count.ensures)) (omega (arith, c.loop-i-test.true, c.size-size.ensures.size, c.min-count.ensures)) c.if-keep_holding-count.false
+
+pub every_from-returns-then-keep_holding-count : goal.every_from-returns-then-keep_holding-count
+every_from-returns-then-keep_holding-count t c =
+    let a = c.args in
+    let l = c.loop-i in
+    let p = holds_for a.view.now a.frame.now (code_of a.test.now) in
+    sym (l.invariant ∙ some_fails_in_block p l.i c.min-count.result c.keep_holding.result a.universe.now c.elements_from-elements.result c.keep_holding.new.elements c.elements_from-elements.ensures c.keep_holding.ensures.kept (omega (arith, c.keep_holding.ensures.few, c.keep_holding.ensures.room, c.min-count.ensures)) (omega (arith, c.loop-i-test.true, c.size-size.ensures.size, c.min-count.ensures)) c.if-keep_holding-count.true)
+
+pub every_from-returns : goal.every_from-returns
+every_from-returns t c =
+    let a = c.args in
+    let l = c.loop-i in
+    let p = holds_for a.view.now a.frame.now (code_of a.test.now) in
+    sym (l.invariant ∙ ap (list_all p) (drop_all l.i a.universe.now (omega (arith, c.size-size.ensures.size))))

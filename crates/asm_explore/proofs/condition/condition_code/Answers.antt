@@ -2,7 +2,7 @@ use Rattle.std.proofs.Common.{[], Some, None, refl, sym, ap, subst}
 use Rattle.asm_meaning.specs.Program.{nothing_bound}
 use Rattle.asm_meaning.specs.Value.{is_true}
 use Rattle.asm_meaning.specs.code.TermValues.{program}
-use Rattle.asm_explore.specs.Conditions.{IsCondition}
+use Rattle.asm_explore.specs.code.ResolvedConditions.{IsCondition}
 use Rattle.asm_explore.proofs.Specifications.{agrees_nothing}
 use Rattle.asm_explore.proofs.condition.condition_code.Goals as goal
 

@@ -4,10 +4,11 @@ use Rattle.asm_check.specs.Shapes.{shape_of}
 use Rattle.asm_meaning.specs.Declarations.{specification_of}
 use Rattle.asm_code.specs.code.RuleViews.{rule_of}
 use Rattle.asm_explore.specs.ExplorationResults.{IsExplorationResult}
-use Rattle.asm_explore.specs.Conditions.{holds_in}
+use Rattle.asm_explore.specs.code.ResolvedConditions.{holds_in}
 use Rattle.asm_explore.specs.code.MainRule.{IsMainOverLimit}
 use Rattle.asm_explore.specs.code.ChoicesMade.{made_in}
 use Rattle.asm_explore.specs.code.StepOutcomes.{IsOverLimitOf}
+use Rattle.asm_explore.proofs.OverLimits.{over_limit}
 use Rattle.asm_explore.proofs.SearchEnds.{errs_or}
 use Rattle.asm_explore.proofs.Specifications.{same_rule_result}
 use Rattle.asm_state.specs.Signature.{initial_state, state_of}
@@ -27,4 +28,4 @@ returns g c =
     errs_or (IsExplorationResult (specification_of s) m.turns (IsOverLimitOf (made_in (shape_of s) m.turns (rule_of m.code.now)) m.limit) c.args.steps c.args.states right rests within)
     (IsExplorationResult (specification_of s) m.turns (IsMainOverLimit m.checked.now m.turns m.limit) c.args.steps c.args.states right rests within) c.explore_machine.result
     (λ answer. same_rule_result (specification_of s) m.turns (IsOverLimitOf (made_in (shape_of s) m.turns (rule_of m.code.now)) m.limit) (IsMainOverLimit m.checked.now m.turns m.limit)
-    (λ A crowd so. (rule_of m.code.now, c.requires.main, so)) c.args.steps c.args.states right rests within right rests within answer (λ A. refl) (λ A. refl) (λ A. refl)) c.explore_machine.ensures
+    (over_limit m.checked.now m.turns m.limit (rule_of m.code.now) c.requires.main) c.args.steps c.args.states right rests within right rests within answer (λ A. refl) (λ A. refl) (λ A. refl)) c.explore_machine.ensures

@@ -50,7 +50,7 @@ look_at-requires-clause-apart g c =
     let turns = g.M.Machine.turns a.machine.now in
     let A = state_of shape a.from.now in
     let one = c.index-outcomes-k.result in
-    each_at (λ (f : ListedOutcome). HaveOwnPaths f.choices.items) a.outcomes.now l.k one c.loop-k-test.true c.index-outcomes-k.is c.requires.step.apart
+    each_at (λ (f : ListedOutcome). HaveOwnPaths f.choices) a.outcomes.now l.k one c.loop-k-test.true c.index-outcomes-k.is c.requires.step.apart
 
 pub loop-k-preserved : goal.loop-k-preserved
 loop-k-preserved g c =

@@ -67,16 +67,16 @@ returns-clause-more g c =
     let fired : (U : UpdateSet) → Stands shape set.set U → IsConsistent U → state_of shape c.in_ok-next.next ≡ fire A U = λ U stands fine.
     subst (λ s. state_of s c.in_ok-next.next ≡ fire (state_of s a.from.now) U) c.signature-signature.ensures
     (c.in_ok-next.ensures.fired U (subst (λ s. Stands s set.set U) (sym c.signature-signature.ensures) stands) fine) in
-    let taken = some_script 1 a.one.now.choices.items c.requires.apart in
+    let taken = some_script 1 a.one.now.choices c.requires.apart in
     let s : Situation = record { script = taken.0; step = 1 } in
     let stands = set_stands shape set a.one.now (o s) c.in-Set.is (c.requires.sound s taken.1) in
     let here : Stands signature set.set stands.0 = subst (λ s. Stands s set.set stands.0) (sym c.signature-signature.ensures) stands.1 in
     let kept : IsStateOf shape c.in_ok-next.next =
     subst (λ s. IsStateOf s c.in_ok-next.next) c.signature-signature.ensures
     (c.in_ok-next.ensures.state stands.0 here (consistent stands.0 stands.1) (subst (λ s. IsStateOf s a.from.now) (sym c.signature-signature.ensures) c.requires.from)) in
-    let leads : (s : Situation) → AreTaken s a.one.now.choices.items → LeadsOn (o s) A (λ B. B ≡ state_of shape c.in_ok-next.next) = λ s made.
+    let leads : (s : Situation) → AreTaken s a.one.now.choices → LeadsOn (o s) A (λ B. B ≡ state_of shape c.in_ok-next.next) = λ s made.
     set_leads shape set a.one.now A c.in_ok-next.next (o s) (λ B. B ≡ state_of shape c.in_ok-next.next) c.in-Set.is (c.requires.sound s made) consistent fired refl in (
       record { state = c.in_ok-next.next; from = 0; depth = 0 } ∷ [],
       c.in_ok-push-2.ensures.ok,
-      ((kept, (a.one.now.choices.items, record { apart = c.requires.apart; leads = leads })), tt),
+      ((kept, (a.one.now.choices, record { apart = c.requires.apart; leads = leads })), tt),
     )

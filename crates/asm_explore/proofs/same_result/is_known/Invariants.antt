@@ -1,4 +1,4 @@
 use Rattle.asm_explore.proofs.same_result.is_known.Given as goal
 
-abbrev pub invariant-loop-i : goal.invariant-loop-i
-invariant-loop-i l = Unit {0}
+abbrev pub invariant-loop-depth : goal.invariant-loop-depth
+invariant-loop-depth l = Unit {0}

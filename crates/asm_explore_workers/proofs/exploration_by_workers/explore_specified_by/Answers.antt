@@ -6,11 +6,12 @@ use Rattle.asm_check.specs.Shapes.{shape_of}
 use Rattle.asm_meaning.specs.Declarations.{specification_of}
 use Rattle.asm_code.specs.code.RuleViews.{rule_of}
 use Rattle.asm_explore.specs.ExplorationResults.{IsExplorationResult}
-use Rattle.asm_explore.specs.Conditions.{holds_in}
+use Rattle.asm_explore.specs.code.ResolvedConditions.{holds_in}
 use Rattle.asm_explore.specs.code.MainRule.{IsMainOverLimit}
 use Rattle.asm_explore.specs.code.ChoicesMade.{made_in}
 use Rattle.asm_explore.specs.code.StepOutcomes.{IsOverLimitOf}
 use Rattle.asm_explore.proofs.Specifications.{same_rule_result}
+use Rattle.asm_explore.proofs.OverLimits.{over_limit}
 use Rattle.asm_explore_workers.proofs.exploration_by_workers.explore_specified_by.Goals as goal
 
 pub explore_machine-requires-clause-initial : goal.explore_machine-requires-clause-initial
@@ -27,4 +28,4 @@ returns g c =
     IfOk-weaker c.explore_machine.result (IsExplorationResult (specification_of s) m.turns (IsOverLimitOf (made_in (shape_of s) m.turns (rule_of m.code.now)) m.limit) c.args.steps c.args.states right rests within)
     (IsExplorationResult (specification_of s) m.turns (IsMainOverLimit m.checked.now m.turns m.limit) c.args.steps c.args.states right rests within)
     (λ answer. same_rule_result (specification_of s) m.turns (IsOverLimitOf (made_in (shape_of s) m.turns (rule_of m.code.now)) m.limit) (IsMainOverLimit m.checked.now m.turns m.limit)
-    (λ A crowd so. (rule_of m.code.now, c.requires.sound.main, so)) c.args.steps c.args.states right rests within right rests within answer (λ A. refl) (λ A. refl) (λ A. refl)) c.explore_machine.ensures
+    (over_limit m.checked.now m.turns m.limit (rule_of m.code.now) c.requires.sound.main) c.args.steps c.args.states right rests within right rests within answer (λ A. refl) (λ A. refl) (λ A. refl)) c.explore_machine.ensures

@@ -6,7 +6,7 @@ use Rattle.asm_state.specs.Updates.{is_consistent}
 use Rattle.asm_syntax.specs.code.Views.{spec_of}
 use Rattle.asm_check.specs.Shapes.{shape_of}
 use Rattle.asm_meaning.specs.Declarations.{specification_of}
-use Rattle.asm_explore.specs.Conditions.{holds_in}
+use Rattle.asm_explore.specs.code.ResolvedConditions.{holds_in}
 use Rattle.asm_random.specs.code.Replay.{GoesWrong, IsStep}
 use Rattle.asm_random.proofs.Endings.{after_more, ends_wrong}
 use Rattle.asm_random.proofs.bad_end.wrong_under.Goals as goal

@@ -3,7 +3,7 @@ use Rattle.std.specs.Prelude.{IfSome}
 use Rattle.asm_syntax.specs.code.Views.{spec_of}
 use Rattle.asm_check.specs.Shapes.{shape_of}
 use Rattle.asm_meaning.specs.Declarations.{specification_of}
-use Rattle.asm_explore.specs.Conditions.{holds_in}
+use Rattle.asm_explore.specs.code.ResolvedConditions.{holds_in}
 use Rattle.asm_random.specs.RandomResults.{IsBadScript}
 use Rattle.asm_random.proofs.finding.finding_of.Goals as goal
 

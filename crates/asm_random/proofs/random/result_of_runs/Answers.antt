@@ -2,7 +2,7 @@ use Rattle.std.proofs.Common.{◌≡◌, ◌∙◌, ap, sym, subst}
 use Rattle.asm_state.specs.Signature.{Shape, initial_state, state_of}
 use Rattle.asm_syntax.specs.code.Views.{spec_of}
 use Rattle.asm_check.specs.Shapes.{shape_of}
-use Rattle.asm_explore.specs.Conditions.{holds_in}
+use Rattle.asm_explore.specs.code.ResolvedConditions.{holds_in}
 use Rattle.asm_random.proofs.random.result_of_runs.Goals as goal
 
 pub returns-then-not-is_right : goal.returns-then-not-is_right

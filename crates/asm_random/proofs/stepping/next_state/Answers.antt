@@ -8,7 +8,7 @@ use Rattle.asm_meaning.specs.Does.{Outcome, does}
 use Rattle.asm_meaning.specs.code.FormedOutcomes.{IsFormed, IsSet}
 use Rattle.asm_meaning.specs.Program.{nothing_bound}
 use Rattle.asm_meaning.specs.code.TermValues.{shown}
-use Rattle.asm_explore.specs.Conditions.{holds_in}
+use Rattle.asm_explore.specs.code.ResolvedConditions.{holds_in}
 use Rattle.asm_explore.specs.declared.fault.Fault.TheVariants as fault
 use Rattle.asm_random.specs.code.Replay.{GoesWrong, IsStep}
 use Rattle.asm_random.proofs.OneStep.{is_exhausted, is_faulty, leads_on}

@@ -61,5 +61,5 @@ returns g c =
       faultless = rw c.in_ok-checked.ensures.accepted c.in_ok-checked.ensures.well_formed;
     } in
     let in_range : are_in_range limits ≡ true = rw (← c.are_in_range.ensures) c.if-not-are_in_range.false in
-    whole c.args.spec.now c.args.script.now limits (g.S.Sink.bytes c.args.out.now) (g.S.Sink.bytes c.run_steps.new.out) (g.S.Sink.has_failed c.run_steps.new.out) tree accepted
-    c.in_ok-script.script c.in_ok-script.ensures.found in_range c.run_steps.result c.run_steps.ensures
+    whole c.args.spec.now c.args.script.now limits (g.S.Sink.bytes c.args.out.now) (g.S.Sink.bytes c.run_steps-ended.new.out) (g.S.Sink.has_failed c.run_steps-ended.new.out) tree accepted
+    c.in_ok-script.script c.in_ok-script.ensures.found in_range c.run_steps-ended.result c.run_steps-ended.ensures

@@ -9,7 +9,7 @@ use Rattle.asm_meaning.specs.Yields.{at}
 use Rattle.asm_code.specs.code.CodeViews.{code_of}
 use Rattle.asm_code.specs.code.RuleViews.{target_code_of, rule_of}
 use Rattle.asm_eval.specs.code.Evaluation.{rule_in, rule_upon, evaluation_shape, evaluation_state}
-use Rattle.asm_explore.specs.ChoicePoints.{after_turn_set}
+use Rattle.asm_explore.specs.code.AskedRules.{after_turn_set}
 use Rattle.asm_explore.specs.code.AskedPieces.{HasCount, IsUpon, all_said, asks_at, own_at, piece_asks}
 use Rattle.asm_explore.proofs.ChoiceLemmas.AskedOrder.{begins, gone, part_on, part_ends, part_exhausted, turn_on, turn_ends, turn_exhausted, parts_left, seq_asks, order_next, order_end, turns_left, iterate_asks, turns_step, skip_none, assign_none}
 use Rattle.asm_explore.proofs.CodeLists.{sound_part, size_of_part}

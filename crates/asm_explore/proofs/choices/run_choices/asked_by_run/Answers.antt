@@ -7,7 +7,7 @@ use Rattle.asm_check.specs.Shapes.{shape_of}
 use Rattle.asm_meaning.specs.Declarations.{specification_of}
 use Rattle.asm_code.specs.code.RuleViews.{rule_of}
 use Rattle.asm_explore.specs.declared.choices.choice_point.ChoicePoint.{ChoicePoint}
-use Rattle.asm_explore.specs.ChoicePoints.{asks_in}
+use Rattle.asm_explore.specs.code.AskedRules.{asks_in}
 use Rattle.asm_explore.specs.code.AskedPieces.{all_said}
 use Rattle.asm_explore.specs.code.StepLeads.{LeadsTo}
 use Rattle.asm_explore.specs.code.ReachedStates.{steps_from}

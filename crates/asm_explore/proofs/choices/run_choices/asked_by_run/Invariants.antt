@@ -4,7 +4,7 @@ use Rattle.asm_syntax.specs.code.Views.{spec_of}
 use Rattle.asm_check.specs.Shapes.{shape_of}
 use Rattle.asm_meaning.specs.Declarations.{specification_of}
 use Rattle.asm_code.specs.code.RuleViews.{rule_of}
-use Rattle.asm_explore.specs.ChoicePoints.{asks_in}
+use Rattle.asm_explore.specs.code.AskedRules.{asks_in}
 use Rattle.asm_explore.specs.code.AskedPieces.{all_said}
 use Rattle.asm_explore.specs.RunChoices.{from_step, of_run}
 use Rattle.asm_explore.proofs.choices.run_choices.asked_by_run.Given as goal

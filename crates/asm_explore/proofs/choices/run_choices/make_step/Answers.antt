@@ -13,7 +13,7 @@ use Rattle.asm_meaning.specs.code.TermValues.{shown}
 use Rattle.asm_meaning.specs.Yields.{Exhausted}
 use Rattle.asm_code.specs.code.RuleMeaning.{meaning}
 use Rattle.asm_code.specs.code.RuleViews.{rule_of}
-use Rattle.asm_explore.specs.ChoicePoints.{asks}
+use Rattle.asm_explore.specs.code.AskedRules.{asks}
 use Rattle.asm_explore.specs.code.AskedPieces.{all_said}
 use Rattle.asm_explore.proofs.Specifications.{nothing_over}
 use Rattle.asm_explore.proofs.StepLeads.{exhausted_leads, on_ok, set_leads}

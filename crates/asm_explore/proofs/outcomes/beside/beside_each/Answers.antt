@@ -18,6 +18,6 @@ returns-in_err-add_outcome-clause-crowd c =
     let l = c.loop-i in
     too_many_on (a.limit ≤ length l.found.items) (a.limit < length a.found.now.items + length a.right.now)
     c.from_residual-in_err-add_outcome.result c.in_err-add_outcome.field-0.0 c.from_residual-in_err-add_outcome.ensures.1
-    (crowd_found a.limit a.right.now l.i c.loop-i-test.true (λ ds. a.left.now.choices.items ++ ds) l.found.items a.found.now.items
+    (crowd_found a.limit a.right.now l.i c.loop-i-test.true (λ ds. a.left.now.choices ++ ds) l.found.items a.found.now.items
     (l.invariant.chosen (choice_lists a.found.now.items) (some_self (choice_lists a.found.now.items))))
     c.in_err-add_outcome.ensures.full

@@ -9,4 +9,4 @@ returns-clause-placed c = λ p k h g.
     let a = c.args in
     let one = c.in_ok-one.one in
     subst (HaveChoices (IsPlacedFrom p k)) (sym (c.in_ok-push.ensures.items ∙ ap (λ fs. fs ++ one ∷ []) c.requires.room))
-    (subst (IsPlacedFrom p k) (sym c.in_ok-one.ensures.choices) (from_part p k a.left.choices.items a.right.choices.items h.0 g.0), tt)
+    (subst (IsPlacedFrom p k) (sym c.in_ok-one.ensures.choices) (from_part p k a.left.choices a.right.choices h.0 g.0), tt)

@@ -123,6 +123,18 @@ outcomes-returns-in-Call t c =
     (call_tree a.rule.now c.in-Call.body c.in-Call.answer c.in-Call.arguments c.in-Call.is c.deref-in-Call.result.now c.in-Call.answer c.as_slice-in-Call.result.now c.deref-in-Call.ensures refl c.as_slice-in-Call.ensures.value)
     c.list_call.ensures
 
+pub outcomes-returns-then-is_formed_once : goal.outcomes-returns-then-is_formed_once
+outcomes-returns-then-is_formed_once t c =
+    let a = c.args in
+    let m = makes_on a.exploration.now a.frame.now a.path.now (rule_of a.rule.now) in
+    record {
+      lists = c.in_ok-found.ensures.lists;
+      placed = have_weaker (λ cs. cs ≡ []) (LieBelow c.args.path.now) (placed_none c.args.path.now) c.in_ok-found.found.items c.in_ok-found.ensures.choices;
+      differ = one_differs c.args.path.now c.in_ok-found.found.items (omega (arith, c.in_ok-found.ensures.one));
+      made = none_made m c.in_ok-found.found.items c.in_ok-found.ensures.choices;
+      crowded = tt;
+    }
+
 pub list_part-returns : goal.list_part-returns
 list_part-returns t c =
     let a = c.args in
@@ -565,13 +577,13 @@ list_next-loop-i-preserved t c =
           l.sorted c.list_one.new.sorted c.loop-i-test.true c.index-front-i.is c.in_ok-list_one.ensures.next l.invariant.next;
       placed = λ h g.
           c.in_ok-list_one.ensures.placed
-          (each_at (λ f. IsPlacedBefore a.path.now a.number f.choices.items) a.front.now l.i c.index-front-i.result c.loop-i-test.true c.index-front-i.is h)
+          (each_at (λ f. IsPlacedBefore a.path.now a.number f.choices) a.front.now l.i c.index-front-i.result c.loop-i-test.true c.index-front-i.is h)
           (l.invariant.placed h g);
       differ = λ h. c.in_ok-list_one.ensures.differ (drop (l.i + 1) a.front.now)
           (front_next a.path.now a.front.now l.i c.index-front-i.result l.sorted c.loop-i-test.true c.index-front-i.is (l.invariant.differ h));
       made = λ total left left_then steps so_far.
           c.in_ok-list_one.ensures.made total left left_then steps
-          (each_at (λ f. AreMade total f.choices.items) a.front.now l.i c.index-front-i.result c.loop-i-test.true c.index-front-i.is so_far.front_made)
+          (each_at (λ f. AreMade total f.choices) a.front.now l.i c.index-front-i.result c.loop-i-test.true c.index-front-i.is so_far.front_made)
           (each_at (HasSet (exploration_shape a.exploration.now) (MakesOfAll (exploration_state a.exploration.now) total left)) a.front.now l.i c.index-front-i.result c.loop-i-test.true c.index-front-i.is so_far.front_on)
           (l.invariant.made total left left_then steps so_far);
     }

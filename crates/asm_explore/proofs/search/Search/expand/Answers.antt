@@ -18,7 +18,7 @@ use Rattle.asm_explore.proofs.search.Search.expand.Goals as goal
 abbrev IsWrongAt : {M : Type 0} (shape : M → Shape) (specification : M → Specification) (turns : M → ℕ) (right rests : M → State → Bool) (m : M)
     → List Node → (from : ℕ) → List ListedOutcome → BadOutcome → Type 0
 IsWrongAt shape specification turns right rests m nodes from outcomes b =
-    (f : ListedOutcome) × (slice_get outcomes b.number ≡ Some f) × IsBadStep (shape m) (specification m) (turns m) (right m) (rests m) nodes from f.choices.items b.fault
+    (f : ListedOutcome) × (slice_get outcomes b.number ≡ Some f) × IsBadStep (shape m) (specification m) (turns m) (right m) (rests m) nodes from f.choices b.fault
 
 pub overflow_add-below : goal.overflow_add-below
 overflow_add-below g c =
@@ -121,6 +121,6 @@ returns-in_ok-choices-in-Some g c =
       room = c.in_ok-follow_all.ensures.adds.room;
       expanded = tt;
       wrong = (refl, subst (λ cs. IsBadStep shape specification turns right (g.M.Machine.rests a.self.now.machine.now) a.reached.now.nodes a.from cs c.in-Some.bad.fault) same wrong.2);
-      apart = subst HaveOwnPaths same (each_got (λ f. HaveOwnPaths f.choices.items) a.outcomes.now c.in-Some.bad.number wrong.0 c.requires.step.apart wrong.1);
+      apart = subst HaveOwnPaths same (each_got (λ f. HaveOwnPaths f.choices) a.outcomes.now c.in-Some.bad.number wrong.0 c.requires.step.apart wrong.1);
       full = tt;
     }

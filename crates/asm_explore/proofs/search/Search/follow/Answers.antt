@@ -19,7 +19,7 @@ reach-requires-clause-state g c =
     let signature = c.signature-signature.result.now in
     let set = c.in-Set.updates in
     let n = some_at a.reached.now.nodes a.from c.requires.ready.from in
-    let taken = some_script 1 a.one.now.choices.items c.requires.apart in
+    let taken = some_script 1 a.one.now.choices c.requires.apart in
     let s : Situation = record { script = taken.0; step = 1 } in
     let r = steps_from (g.M.Machine.specification a.self.now.machine.now) (g.M.Machine.turns a.self.now.machine.now) (state_at shape n.0) s in
     let stands = set_stands shape set a.one.now r c.in-Set.is ((c.requires.outcome n.0 n.1).1 s taken.1) in
@@ -35,7 +35,7 @@ reach-requires-clause-leads g c = λ n there.
     let signature = c.signature-signature.result.now in
     let set = c.in-Set.updates in
     let outcome = c.requires.outcome n there in
-    let leads : (s : Situation) → AreTaken s a.one.now.choices.items
+    let leads : (s : Situation) → AreTaken s a.one.now.choices
     → LeadsOn (steps_from (g.M.Machine.specification a.self.now.machine.now) (g.M.Machine.turns a.self.now.machine.now) (state_at shape n) s) (state_at shape n) (λ A. A ≡ state_of shape c.in_ok-next.next) = λ s taken.
     let r = steps_from (g.M.Machine.specification a.self.now.machine.now) (g.M.Machine.turns a.self.now.machine.now) (state_at shape n) s in
     set_leads shape set a.one.now (state_at shape n) c.in_ok-next.next r (λ A. A ≡ state_of shape c.in_ok-next.next) c.in-Set.is
@@ -47,7 +47,7 @@ reach-requires-clause-leads g c = λ n there.
     (c.in_ok-next.ensures.fired U (subst (λ s. Stands s set.set U) (sym c.signature-signature.ensures) stands) consistent)
     ∙ ap (λ xs. fire (state_of shape xs) U) (sym (c.requires.here n there)))
     refl in
-    (outcome.0, (a.one.now.choices.items, record { apart = c.requires.apart; leads = leads }))
+    (outcome.0, (a.one.now.choices, record { apart = c.requires.apart; leads = leads }))
 
 pub returns-in-Exhausted-clause-wrong : goal.returns-in-Exhausted-clause-wrong
 returns-in-Exhausted-clause-wrong g c = λ n there s taken.

@@ -88,8 +88,8 @@ returns-in-Some-clause-wrong g c =
       f,
       slice_get-get_or a.outcomes.now l.k f c.loop-k-test.true ∙ ap Some (sym c.index-outcomes-k.is),
       bad_step_less (g.M.Machine.shape a.self.now.machine.now) (g.M.Machine.specification a.self.now.machine.now) (g.M.Machine.turns a.self.now.machine.now) (g.M.Machine.right a.self.now.machine.now) a.below
-          a.reached.now.nodes l.reached.nodes l.invariant.extends (g.M.Machine.rests a.self.now.machine.now) a.from f.choices.items c.in-Some.fault c.requires.ready.from
-          (subst (λ o. IfSome o (IsBadStep (g.M.Machine.shape a.self.now.machine.now) (g.M.Machine.specification a.self.now.machine.now) (g.M.Machine.turns a.self.now.machine.now) (g.M.Machine.right a.self.now.machine.now) (g.M.Machine.rests a.self.now.machine.now) l.reached.nodes a.from f.choices.items)) c.in-Some.is c.in_ok-fault.ensures.wrong),
+          a.reached.now.nodes l.reached.nodes l.invariant.extends (g.M.Machine.rests a.self.now.machine.now) a.from f.choices c.in-Some.fault c.requires.ready.from
+          (subst (λ o. IfSome o (IsBadStep (g.M.Machine.shape a.self.now.machine.now) (g.M.Machine.specification a.self.now.machine.now) (g.M.Machine.turns a.self.now.machine.now) (g.M.Machine.right a.self.now.machine.now) (g.M.Machine.rests a.self.now.machine.now) l.reached.nodes a.from f.choices)) c.in-Some.is c.in_ok-fault.ensures.wrong),
     )
 
 pub returns-clause-adds : goal.returns-clause-adds
@@ -112,4 +112,4 @@ follow-requires-clause-ready g c =
 
 pub follow-requires-clause-apart : goal.follow-requires-clause-apart
 follow-requires-clause-apart g c =
-    each_at (λ f. HaveOwnPaths f.choices.items) c.args.outcomes.now c.loop-k.k c.index-outcomes-k.result c.loop-k-test.true c.index-outcomes-k.is c.requires.apart
+    each_at (λ f. HaveOwnPaths f.choices) c.args.outcomes.now c.loop-k.k c.index-outcomes-k.result c.loop-k-test.true c.index-outcomes-k.is c.requires.apart

@@ -37,7 +37,7 @@ returns-then-not-branch g c =
     let A = state_of shape a.state.now in
     let one = c.index-outcomes-k.result in
     let step = c.requires.step in
-    let taken = some_script 1 one.choices.items (each_at (λ (f : ListedOutcome). HaveOwnPaths f.choices.items) a.outcomes.now c.loop-k.k one c.loop-k-test.true c.index-outcomes-k.is step.apart) in
+    let taken = some_script 1 one.choices (each_at (λ (f : ListedOutcome). HaveOwnPaths f.choices) a.outcomes.now c.loop-k.k one c.loop-k-test.true c.index-outcomes-k.is step.apart) in
     let s : Situation = record { script = taken.0; step = 1 } in
     let r = steps_from (g.M.Machine.specification a.machine.now) (g.M.Machine.turns a.machine.now) A s in
     let shows = each_at (IsSound shape (steps_from (g.M.Machine.specification a.machine.now) (g.M.Machine.turns a.machine.now) A)) a.outcomes.now c.loop-k.k one c.loop-k-test.true c.index-outcomes-k.is step.lists.sound s taken.1 in

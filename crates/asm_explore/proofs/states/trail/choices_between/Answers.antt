@@ -1,4 +1,4 @@
-use Rattle.std.proofs.Common.{◌≡◌, ◌++◌, ◌<◌, ◌∙◌, ap, sym, subst, length, arith}
+use Rattle.std.proofs.Common.{◌≡◌, ◌<◌, ◌∙◌, sym, subst, length, arith}
 use Rattle.std.proofs.lemmas.Bool.{false≢true}
 use Rattle.asm_state.specs.Signature.{count_of, state_of}
 use Rattle.asm_meaning.specs.Yields.{Result}
@@ -24,10 +24,9 @@ returns-then-branch-clause-some g c =
     let one = c.index-one.result.now in
     let low : c.loop-k.k < length fs = omega (arith, c.loop-k-test.true, c.len-k-end.ensures, c.in_ok-outcomes.outcomes.ok.0) in
     let step = c.in_ok-outcomes.ensures.step in
-    let chosen : c.add_choices.new.into.items ≡ one.choices.items =
-    c.in_ok-add_choices.ensures ∙ ap (λ cs. cs ++ c.as_slice.result.now) c.new-choices.ensures.items ∙ c.as_slice.ensures.value in
+    let chosen : c.in_ok-choices.choices.items ≡ one.choices = c.in_ok-choices.ensures in
     record {
-      apart = subst HaveOwnPaths (sym chosen) (each_at (λ (f : ListedOutcome). HaveOwnPaths f.choices.items) fs c.loop-k.k one low c.index-one.ensures step.apart);
+      apart = subst HaveOwnPaths (sym chosen) (each_at (λ (f : ListedOutcome). HaveOwnPaths f.choices) fs c.loop-k.k one low c.index-one.ensures step.apart);
       leads = λ s taken.
           let shows = each_at (IsSound shape (steps_from specification turns A)) fs c.loop-k.k one low c.index-one.ensures step.lists.sound s (subst (AreTaken s) chosen taken) in
           let r = steps_from specification turns A s in

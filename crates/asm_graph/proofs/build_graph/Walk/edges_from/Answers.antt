@@ -63,7 +63,7 @@ loop-k-preserved g c =
           (subst (Pairs P (take l.k a.outcomes.now ++ one ∷ [])) (sym c.in_ok-push.ensures.items)
           (pairs_push P (take l.k a.outcomes.now) l.edges.items one edge
           (pairs_weaker (IsFollowed shape l.nodes.items A) P (λ f e. followed_more shape l.nodes.items grows.more new grows.is A f e) (take l.k a.outcomes.now) l.edges.items l.invariant.follow)
-          (record { choices = c.in_ok-choices.ensures ∙ c.as_slice.ensures.value; goes = c.in_ok-to.ensures.goes })));
+          (record { choices = c.in_ok-choices.ensures; goes = c.in_ok-to.ensures.goes })));
     }
 
 pub returns-clause-edges : goal.returns-clause-edges

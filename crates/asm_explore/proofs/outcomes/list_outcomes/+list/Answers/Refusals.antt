@@ -188,10 +188,10 @@ list_next-returns-in_err-list_one-clause-crowded t c = λ total left left_then s
     let one = c.index-front-i.result in
     refuses_on a.exploration.now.limit (λ q. IsWay a.path.now total) c.from_residual.result c.in_err-list_one.field-0.0 c.from_residual.ensures.1
     (c.in_err-list_one.ensures.crowded total left left_then steps
-    (each_at (λ f. AreMade total f.choices.items) a.front.now l.i one c.loop-i-test.true c.index-front-i.is so_far.front_made)
+    (each_at (λ f. AreMade total f.choices) a.front.now l.i one c.loop-i-test.true c.index-front-i.is so_far.front_made)
     (each_at (HasSet (exploration_shape a.exploration.now) (MakesOfAll (exploration_state a.exploration.now) total left)) a.front.now l.i one c.loop-i-test.true c.index-front-i.is so_far.front_on)
     (l.invariant.made total left left_then steps so_far)
-    (each_at (λ f. IsPlacedBefore a.path.now a.number f.choices.items) a.front.now l.i one c.loop-i-test.true c.index-front-i.is h)
+    (each_at (λ f. IsPlacedBefore a.path.now a.number f.choices) a.front.now l.i one c.loop-i-test.true c.index-front-i.is h)
     (l.invariant.placed h g)
     (front_one a.path.now one (drop (l.i + 1) a.front.now) l.sorted (front_next a.path.now a.front.now l.i one l.sorted c.loop-i-test.true c.index-front-i.is (l.invariant.differ differ))))
 

@@ -1,0 +1,9 @@
+use Rattle.asm_state.specs.Operation.{op}
+use Rattle.asm_state.specs.declared.operation.Op.TheVariants.{Add}
+use Rattle.asm_state.specs.declared.value.Value.TheVariants.{Number as Whole}
+use Rattle.asm_state.specs.declared.value.Value.TheVariants.{Undef}
+use Rattle.asm_eval.proofs.BlockLemmas.{EachSoFar}
+use Rattle.asm_eval.proofs.block.add_each.Given as goal
+
+abbrev pub invariant-loop-k : goal.invariant-loop-k
+invariant-loop-k l = EachSoFar Undef (λ k v. op Add (v) (Whole l.right)) l.initial.values l.values l.k

@@ -1,0 +1,7 @@
+use Rattle.asm_state.specs.Operation.{op}
+use Rattle.asm_state.specs.declared.value.Value.TheVariants.{Undef}
+use Rattle.asm_eval.proofs.BlockLemmas.{EachSoFar}
+use Rattle.asm_eval.proofs.block.apply_each.Given as goal
+
+abbrev pub invariant-loop-k : goal.invariant-loop-k
+invariant-loop-k l = EachSoFar Undef (λ k v. op l.operation (v) l.right) l.initial.values l.values l.k

@@ -1,0 +1,15 @@
+use Rattle.std.proofs.Common.{◌<◌, ◌∙◌, arith}
+use Rattle.asm_state.specs.Operation.{op}
+use Rattle.asm_state.specs.declared.operation.Op.TheVariants.{Equal}
+use Rattle.asm_state.specs.declared.value.Value.TheVariants.{Undef}
+use Rattle.asm_eval.proofs.BlockLemmas.{each_more, read_at}
+use Rattle.asm_eval.proofs.block.equal_each.Goals as goal
+
+pub loop-k-preserved : goal.loop-k-preserved
+loop-k-preserved c =
+    let a = c.args in
+    let l = c.loop-k in
+    let low : l.k < 16 = omega (arith, c.requires) in
+    let value = read_at Undef l.values l.k c.index-values-k.result (omega (arith, low, l.invariant.room)) in
+    each_more Undef (λ k v. op Equal (v) a.right) _ l.values l.k c.equal_to.result l.invariant low
+    (c.equal_to.ensures ∙ (λ i. op Equal (value i) a.right))
