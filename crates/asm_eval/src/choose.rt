@@ -18,7 +18,8 @@ ghost use Rattle.asm_eval.specs.code.Evaluation.{is_passing, passes_in, passing_
 use crate::block::BLOCK;
 use crate::evaluation::Evaluation;
 use crate::frame::Frame;
-use crate::value::{holds, keep_holding};
+use crate::keep_holding::keep_holding;
+use crate::value::holds;
 use asm_code::code::Code;
 use asm_meaning::View;
 use asm_meaning::found_candidate::{FoundCandidate, element_at};

@@ -3,12 +3,14 @@
 
 mod applied;
 mod block;
+mod block_values;
 pub mod choose;
 pub mod evaluation;
 mod find;
 pub mod form;
 pub mod frame;
 pub mod laws;
+mod keep_holding;
 mod location_values;
 mod one_update;
 pub mod open;

@@ -34,214 +34,214 @@ use Rattle.asm_eval.proofs.FramePositions.{within_values}
 use Rattle.asm_eval.proofs.Quantified.{passes, none_more, all_more, exists_at, fails_at, exists_past, every_past, exists_further, every_further}
 use Rattle.asm_eval.specs.code.Blocks.{at, holds_for, value_for}
 use Rattle.asm_eval.proofs.BlockLemmas.{each_more, keeps_more, keeps_less, read_at, filter_twice, one_test_more, and_nothing, any_in_block, none_in_block, some_fails_in_block, all_in_block}
-use Rattle.asm_eval.proofs.value.+value.Goals as goal
-use Rattle.asm_eval.proofs.value.+value.Goals.{keep_singly-then-holds, keep_singly-else-holds}
+use Rattle.asm_eval.proofs.+value.Goals as goal
+use Rattle.asm_eval.proofs.+value.Goals.{keep_holding::keep_singly-then-holds, keep_holding::keep_singly-else-holds}
 
-pub value-returns-in-Constant : goal.value-returns-in-Constant
-value-returns-in-Constant t c = let a = c.args in of_constant a.view.now.signature.now (readings_of a.view.now.signature.now a.frame.now) (shown a.view.now) a.code.now c.in-Constant.value c.in-Constant.is
+pub value::value-returns-in-Constant : goal.value::value-returns-in-Constant
+value::value-returns-in-Constant t c = let a = c.args in of_constant a.view.now.signature.now (readings_of a.view.now.signature.now a.frame.now) (shown a.view.now) a.code.now c.in-Constant.value c.in-Constant.is
 
-pub value-returns-in-Local : goal.value-returns-in-Local
-value-returns-in-Local t c =
+pub value::value-returns-in-Local : goal.value::value-returns-in-Local
+value::value-returns-in-Local t c =
     let a = c.args in
     of_local a.view.now.signature.now (readings_of a.view.now.signature.now a.frame.now) (shown a.view.now) a.code.now c.in-Local.position c.local.result c.in-Local.is c.local.ensures
 
-pub value-returns-in-Cell : goal.value-returns-in-Cell
-value-returns-in-Cell t c =
+pub value::value-returns-in-Cell : goal.value::value-returns-in-Cell
+value::value-returns-in-Cell t c =
     let a = c.args in
     of_cell a.view.now.signature.now (readings_of a.view.now.signature.now a.frame.now) (shown a.view.now) a.code.now c.in-Cell.n c.cell_by_call.result c.in-Cell.is c.cell_by_call.ensures
 
-pub operand-returns-in-Constant : goal.operand-returns-in-Constant
-operand-returns-in-Constant t c = let a = c.args in of_constant a.view.now.signature.now (readings_of a.view.now.signature.now a.frame.now) (shown a.view.now) a.code.now c.in-Constant.value c.in-Constant.is
+pub value::operand-returns-in-Constant : goal.value::operand-returns-in-Constant
+value::operand-returns-in-Constant t c = let a = c.args in of_constant a.view.now.signature.now (readings_of a.view.now.signature.now a.frame.now) (shown a.view.now) a.code.now c.in-Constant.value c.in-Constant.is
 
-pub operand-returns-in-Local : goal.operand-returns-in-Local
-operand-returns-in-Local t c =
+pub value::operand-returns-in-Local : goal.value::operand-returns-in-Local
+value::operand-returns-in-Local t c =
     let a = c.args in
     of_local a.view.now.signature.now (readings_of a.view.now.signature.now a.frame.now) (shown a.view.now) a.code.now c.in-Local.position c.local.result c.in-Local.is c.local.ensures
 
-pub operand-returns-in-Cell : goal.operand-returns-in-Cell
-operand-returns-in-Cell t c =
+pub value::operand-returns-in-Cell : goal.value::operand-returns-in-Cell
+value::operand-returns-in-Cell t c =
     let a = c.args in
     of_cell a.view.now.signature.now (readings_of a.view.now.signature.now a.frame.now) (shown a.view.now) a.code.now c.in-Cell.n c.cell_by_call.result c.in-Cell.is c.cell_by_call.ensures
 
-pub with-returns : goal.with-returns
-with-returns t c =
+pub value::with-returns : goal.value::with-returns
+value::with-returns t c =
     let a = c.args in
     with_is a.view.now.signature.now (readings_of a.view.now.signature.now a.frame.now) (shown a.view.now) a.operation (code_of a.left.now) a.right c.operand-left.result c.applied_by_call.result c.operand-left.ensures c.applied_by_call.ensures
 
-pub plus-returns : goal.plus-returns
-plus-returns t c =
+pub value::plus-returns : goal.value::plus-returns
+value::plus-returns t c =
     let a = c.args in
     with_is a.view.now.signature.now (readings_of a.view.now.signature.now a.frame.now) (shown a.view.now) Add (code_of a.left.now) (Number a.right) c.operand-left.result c.added.result c.operand-left.ensures c.added.ensures
 
-pub modulo-returns : goal.modulo-returns
-modulo-returns t c =
+pub value::modulo-returns : goal.value::modulo-returns
+value::modulo-returns t c =
     let a = c.args in
     with_is a.view.now.signature.now (readings_of a.view.now.signature.now a.frame.now) (shown a.view.now) Remainder (code_of a.left.now) (Number a.right.number) c.operand-left.result c.remainder_by.result c.operand-left.ensures c.remainder_by.ensures
 
-pub plus_modulo-returns : goal.plus_modulo-returns
-plus_modulo-returns t c =
+pub value::plus_modulo-returns : goal.value::plus_modulo-returns
+value::plus_modulo-returns t c =
     let a = c.args in
     turned_is a.view.now.signature.now (readings_of a.view.now.signature.now a.frame.now) (shown a.view.now) (code_of a.left.now) (Number a.by) (Number a.over.number) c.operand-left.result c.added-sum.result c.remainder_by.result
     c.operand-left.ensures c.added-sum.ensures c.remainder_by.ensures
 
-pub derived_one-returns : goal.derived_one-returns
-derived_one-returns t c =
+pub value::derived_one-returns : goal.value::derived_one-returns
+value::derived_one-returns t c =
     let a = c.args in
     one_is a.view.now.signature.now (readings_of a.view.now.signature.now a.frame.now) (shown a.view.now) (code_of a.body.now) (code_of a.argument.now) c.operand.result c.value.result c.operand.ensures c.value.ensures
 
-pub derived_two-returns : goal.derived_two-returns
-derived_two-returns t c =
+pub value::derived_two-returns : goal.value::derived_two-returns
+value::derived_two-returns t c =
     let a = c.args in
     two_is a.view.now.signature.now (readings_of a.view.now.signature.now a.frame.now) (shown a.view.now) (code_of a.body.now) (code_of a.first.now) (code_of a.second.now) c.operand-a.result c.operand-b.result c.value.result
     c.operand-a.ensures c.operand-b.ensures c.value.ensures
 
-pub equals-returns : goal.equals-returns
-equals-returns t c =
+pub value::equals-returns : goal.value::equals-returns
+value::equals-returns t c =
     let a = c.args in
     with_is a.view.now.signature.now (readings_of a.view.now.signature.now a.frame.now) (shown a.view.now) Equal (code_of a.left.now) a.right c.operand-left.result c.equal_to.result c.operand-left.ensures c.equal_to.ensures
 
-pub both-returns : goal.both-returns
-both-returns t c =
+pub value::both-returns : goal.value::both-returns
+value::both-returns t c =
     let a = c.args in
     both_is a.view.now.signature.now (readings_of a.view.now.signature.now a.frame.now) (shown a.view.now) a.operation (code_of a.left.now) (code_of a.right.now) c.operand-a.result c.operand-b.result c.applied.result
     c.operand-a.ensures c.operand-b.ensures c.applied.ensures
 
-pub compared_with-returns : goal.compared_with-returns
-compared_with-returns t c =
+pub value::compared_with-returns : goal.value::compared_with-returns
+value::compared_with-returns t c =
     let a = c.args in
     c.is_true_of.ensures
     ∙ ap spec.is_true (with_is a.view.now.signature.now (readings_of a.view.now.signature.now a.frame.now) (shown a.view.now) a.operation (code_of a.left.now) a.right c.operand-left.result
     (op a.operation c.operand-left.result a.right) c.operand-left.ensures refl)
 
-pub compared-returns : goal.compared-returns
-compared-returns t c =
+pub value::compared-returns : goal.value::compared-returns
+value::compared-returns t c =
     let a = c.args in
     c.is_true_of.ensures
     ∙ ap spec.is_true (both_is a.view.now.signature.now (readings_of a.view.now.signature.now a.frame.now) (shown a.view.now) a.operation (code_of a.left.now) (code_of a.right.now) c.operand-a.result c.operand-b.result
     (op a.operation c.operand-a.result c.operand-b.result) c.operand-a.ensures c.operand-b.ensures refl)
 
-pub row_value-returns : goal.row_value-returns
-row_value-returns t c =
+pub value::row_value-returns : goal.value::row_value-returns
+value::row_value-returns t c =
     let a = c.args in
     row_is a.view.now.signature.now (readings_of a.view.now.signature.now a.frame.now) (shown a.view.now) a.first a.over.low a.over.count (code_of a.argument.now) c.operand-argument.result c.in_row.result c.operand-argument.ensures c.in_row.ensures
 
-pub grid_value-returns : goal.grid_value-returns
-grid_value-returns t c =
+pub value::grid_value-returns : goal.value::grid_value-returns
+value::grid_value-returns t c =
     let a = c.args in
     grid_is a.view.now.signature.now (readings_of a.view.now.signature.now a.frame.now) (shown a.view.now) a.place.now.first a.place.now.rows.low a.place.now.rows.count a.place.now.columns.low a.place.now.columns.count (code_of a.row.now) (code_of a.column.now) c.operand-a.result c.operand-b.result c.in_grid.result
     c.operand-a.ensures c.operand-b.ensures c.in_grid.ensures
 
-pub chain-loop-operation-init : goal.chain-loop-operation-init
-chain-loop-operation-init t c =
+pub value::chain-loop-operation-init : goal.value::chain-loop-operation-init
+value::chain-loop-operation-init t c =
     let a = c.args in
     chain_begins a.view.now.signature.now (readings_of a.view.now.signature.now a.frame.now) (shown a.view.now) (code_of a.first.now) (links_of (map link_of a.rest.now)) c.operand-total.result c.operand-total.ensures
 
-pub chain-operand-right-requires : goal.chain-operand-right-requires
-chain-operand-right-requires t c =
+pub value::chain-operand-right-requires : goal.value::chain-operand-right-requires
+value::chain-operand-right-requires t c =
     let a = c.args in
     let shape = a.view.now.signature.now in
     let small = link_size_within a.rest.now c.loop-operation.operation-index c.loop-operation-item.result c.loop-operation-test.true c.loop-operation-item.is in
     (omega (arith, c.decreases, small), (link_sound_within shape a.rest.now c.loop-operation.operation-index c.loop-operation-item.result c.loop-operation-test.true c.loop-operation-item.is c.requires.rest, c.requires.framed))
 
-pub chain-loop-operation-preserved : goal.chain-loop-operation-preserved
-chain-loop-operation-preserved t c =
+pub value::chain-loop-operation-preserved : goal.value::chain-loop-operation-preserved
+value::chain-loop-operation-preserved t c =
     let a = c.args in
     chain_goes_on a.view.now.signature.now (readings_of a.view.now.signature.now a.frame.now) (shown a.view.now) a.rest.now c.loop-operation.operation-index c.loop-operation-item.result
     c.loop-operation.total c.operand-right.result _ _ c.loop-operation-test.true c.loop-operation-item.is c.loop-operation.invariant c.operand-right.ensures c.applied-total.ensures
 
-pub chain-returns : goal.chain-returns
-chain-returns t c =
+pub value::chain-returns : goal.value::chain-returns
+value::chain-returns t c =
     let a = c.args in
     chain_ends a.view.now.signature.now (readings_of a.view.now.signature.now a.frame.now) (shown a.view.now) a.rest.now c.loop-operation.operation-index c.loop-operation.total _
     (omega arith) c.loop-operation.invariant
 
-pub local-returns-in-Some : goal.local-returns-in-Some
-local-returns-in-Some t c =
+pub value::local-returns-in-Some : goal.value::local-returns-in-Some
+value::local-returns-in-Some t c =
     let a = c.args in
     let shape = a.view.now.signature.now in
     let here = c.in-Some.ensures.lookup in
     ap (λ r. r (shown a.view.now)) (within_values c.in-Values.values.now (readings_of shape c.in-Values.outer.now) a.position c.in-Some.value.now here.3.0 here.1
     ∙ sym (ap (λ f. at_position (readings_of shape f) a.position) c.in-Values.is))
 
-pub local_by_call-value-requires : goal.local_by_call-value-requires
-local_by_call-value-requires t c =
+pub value::local_by_call-value-requires : goal.value::local_by_call-value-requires
+value::local_by_call-value-requires t c =
     let sound = subst (IsSoundBinding c.args.view.now.signature.now) c.in-ByName.is (c.find.ensures.sound c.args.view.now.signature.now c.requires.framed) in
     let lighter = subst (λ f. binding_load f ≤ frame_size c.args.frame.now) c.in-ByName.is c.find.ensures.load in
     (omega (arith, c.decreases, lighter), (sound.0, sound.1))
 
-pub function_at-returns : goal.function_at-returns
-function_at-returns t c =
+pub value::function_at-returns : goal.value::function_at-returns
+value::function_at-returns t c =
     let a = c.args in
     of_held a.view.now.signature.now (readings_of a.view.now.signature.now a.frame.now) (shown a.view.now) a.function a.arguments.now _ _
     (all_valued (code_value a.view.now a.frame.now) a.arguments.now c.loop-i.values c.loop-i.i c.loop-i-test.false c.loop-i.auto.i-end c.loop-i.invariant.valued) c.function_value.ensures
 
-pub function_at-operand-requires : goal.function_at-operand-requires
-function_at-operand-requires t c =
+pub value::function_at-operand-requires : goal.value::function_at-operand-requires
+value::function_at-operand-requires t c =
     let a = c.args in
     let small = size_within a.arguments.now c.loop-i.i c.index-arguments-i.result c.loop-i-test.true c.index-arguments-i.is in
     (omega (arith, c.decreases, small), (sound_within a.view.now.signature.now a.arguments.now c.loop-i.i c.index-arguments-i.result c.loop-i-test.true c.index-arguments-i.is c.requires.sound, c.requires.framed))
 
-pub derived-operand-requires : goal.derived-operand-requires
-derived-operand-requires t c =
+pub value::derived-operand-requires : goal.value::derived-operand-requires
+value::derived-operand-requires t c =
     let a = c.args in
     let small = size_within a.arguments.now c.loop-i.i c.index-arguments-i.result c.loop-i-test.true c.index-arguments-i.is in
     (omega (arith, c.decreases, small), (sound_within a.view.now.signature.now a.arguments.now c.loop-i.i c.index-arguments-i.result c.loop-i-test.true c.index-arguments-i.is c.requires.sound, c.requires.framed))
 
-pub derived-returns-then-arguments-le-MAX_ARGUMENTS : goal.derived-returns-then-arguments-le-MAX_ARGUMENTS
-derived-returns-then-arguments-le-MAX_ARGUMENTS t c =
+pub value::derived-returns-then-arguments-le-MAX_ARGUMENTS : goal.value::derived-returns-then-arguments-le-MAX_ARGUMENTS
+value::derived-returns-then-arguments-le-MAX_ARGUMENTS t c =
     let a = c.args in
     let are = all_valued (code_value a.view.now a.frame.now) a.arguments.now c.loop-i.values c.loop-i.i c.loop-i-test.false c.loop-i.auto.i-end c.loop-i.invariant.valued in
     let it = of_derived a.view.now.signature.now (readings_of a.view.now.signature.now a.frame.now) (shown a.view.now) a.body.now a.arguments.now _ are in
     c.value.ensures ∙ ap (λ rs. reading a.view.now.signature.now (code_of a.body.now) rs (shown a.view.now)) (append-nil _) ∙ it
 
-pub every-returns-then-not-tested : goal.every-returns-then-not-tested
-every-returns-then-not-tested t c =
+pub value::every-returns-then-not-tested : goal.value::every-returns-then-not-tested
+value::every-returns-then-not-tested t c =
     let a = c.args in
     let fails = sym c.holds-tested.ensures ∙ c.if-not-tested.true in
     fails_at a.view.now.signature.now (readings_of a.view.now.signature.now a.frame.now) (shown a.view.now) a.over (code_of a.test.now) c.universe-universe.result.now c.loop-i.i (value_of_code c.unbranded_code.result.value) c.universe-universe.ensures (c.element.ensures ∙ ap Some (sym c.unbranded_code.ensures)) fails
 
-pub every-loop-i-preserved : goal.every-loop-i-preserved
-every-loop-i-preserved t c =
+pub value::every-loop-i-preserved : goal.value::every-loop-i-preserved
+value::every-loop-i-preserved t c =
     let a = c.args in
     let passed = sym c.holds-tested.ensures ∙ c.if-not-tested.false in
     all_more (passes a.view.now.signature.now (readings_of a.view.now.signature.now a.frame.now) (shown a.view.now) a.over (code_of a.test.now)) c.universe-universe.result.now c.loop-i.i (value_of_code c.unbranded_code.result.value) (c.element.ensures ∙ ap Some (sym c.unbranded_code.ensures)) c.loop-i.invariant passed
 
-pub every-returns-then-alone-size : goal.every-returns-then-alone-size
-every-returns-then-alone-size t c =
+pub value::every-returns-then-alone-size : goal.value::every-returns-then-alone-size
+value::every-returns-then-alone-size t c =
     let a = c.args in
     every_past a.view.now.signature.now (readings_of a.view.now.signature.now a.frame.now) (shown a.view.now) a.over (code_of a.test.now) c.universe-universe.result.now c.loop-i.i c.universe-universe.ensures (omega (arith, c.size-size.ensures.size)) c.loop-i.invariant
 
-pub every-returns : goal.every-returns
-every-returns t c =
+pub value::every-returns : goal.value::every-returns
+value::every-returns t c =
     let a = c.args in
     every_further a.view.now.signature.now (readings_of a.view.now.signature.now a.frame.now) (shown a.view.now) a.over (code_of a.test.now) c.universe-universe.result.now c.loop-i.i c.alone_of-alone.result c.every_from.result
     c.universe-universe.ensures (omega arith) c.loop-i.invariant c.every_from.ensures
 
-pub exists-returns-then-tested : goal.exists-returns-then-tested
-exists-returns-then-tested t c =
+pub value::exists-returns-then-tested : goal.value::exists-returns-then-tested
+value::exists-returns-then-tested t c =
     let a = c.args in
     let passed = sym c.holds-tested.ensures ∙ c.if-tested.true in
     exists_at a.view.now.signature.now (readings_of a.view.now.signature.now a.frame.now) (shown a.view.now) a.over (code_of a.test.now) c.universe-universe.result.now c.loop-i.i (value_of_code c.unbranded_code.result.value) c.universe-universe.ensures (c.element.ensures ∙ ap Some (sym c.unbranded_code.ensures)) passed
 
-pub exists-loop-i-preserved : goal.exists-loop-i-preserved
-exists-loop-i-preserved t c =
+pub value::exists-loop-i-preserved : goal.value::exists-loop-i-preserved
+value::exists-loop-i-preserved t c =
     let a = c.args in
     let fails = sym c.holds-tested.ensures ∙ c.if-tested.false in
     none_more (passes a.view.now.signature.now (readings_of a.view.now.signature.now a.frame.now) (shown a.view.now) a.over (code_of a.test.now)) c.universe-universe.result.now c.loop-i.i (value_of_code c.unbranded_code.result.value) (c.element.ensures ∙ ap Some (sym c.unbranded_code.ensures)) c.loop-i.invariant fails
 
-pub exists-returns-then-alone-size : goal.exists-returns-then-alone-size
-exists-returns-then-alone-size t c =
+pub value::exists-returns-then-alone-size : goal.value::exists-returns-then-alone-size
+value::exists-returns-then-alone-size t c =
     let a = c.args in
     exists_past a.view.now.signature.now (readings_of a.view.now.signature.now a.frame.now) (shown a.view.now) a.over (code_of a.test.now) c.universe-universe.result.now c.loop-i.i c.universe-universe.ensures (omega (arith, c.size-size.ensures.size)) c.loop-i.invariant
 
-pub exists-returns : goal.exists-returns
-exists-returns t c =
+pub value::exists-returns : goal.value::exists-returns
+value::exists-returns t c =
     let a = c.args in
     exists_further a.view.now.signature.now (readings_of a.view.now.signature.now a.frame.now) (shown a.view.now) a.over (code_of a.test.now) c.universe-universe.result.now c.loop-i.i c.alone_of-alone.result c.exists_from.result
     c.universe-universe.ensures (omega arith) c.loop-i.invariant c.exists_from.ensures
 
-pub derived-returns : goal.derived-returns
-derived-returns t c =
+pub value::derived-returns : goal.value::derived-returns
+value::derived-returns t c =
     let a = c.args in
     let shape = a.view.now.signature.now in
     let rs = readings_of shape a.frame.now in
@@ -250,8 +250,8 @@ derived-returns t c =
     c.linked.ensures ∙ ap (λ us. reading shape (code_of a.body.now) us A) (sym (values_are f [] a.arguments.now) ∙ append-nil _)
     ∙ of_derived shape rs A a.body.now a.arguments.now (map f a.arguments.now) refl
 
-pub linked-operand-requires : goal.linked-operand-requires
-linked-operand-requires t c =
+pub value::linked-operand-requires : goal.value::linked-operand-requires
+value::linked-operand-requires t c =
     let a = c.args in
     let shape = a.view.now.signature.now in
     let parts = c.split_at.ensures.by_index.0 in
@@ -261,11 +261,11 @@ linked-operand-requires t c =
     let small = size_within c.split_at.result.1.now c.loop-i.i c.index-lasts-i.result c.loop-i-test.true c.index-lasts-i.is in
     (omega (arith, c.decreases, same, split, small), (sound_within shape c.split_at.result.1.now c.loop-i.i c.index-lasts-i.result c.loop-i-test.true c.index-lasts-i.is sound.1, c.requires.framed))
 
-pub linked-value-requires : goal.linked-value-requires
-linked-value-requires t c = (omega (arith, c.decreases), (c.requires.body, c.requires.bound))
+pub value::linked-value-requires : goal.value::linked-value-requires
+value::linked-value-requires t c = (omega (arith, c.decreases), (c.requires.body, c.requires.bound))
 
-pub linked-returns-then-is_empty : goal.linked-returns-then-is_empty
-linked-returns-then-is_empty t c =
+pub value::linked-returns-then-is_empty : goal.value::linked-returns-then-is_empty
+value::linked-returns-then-is_empty t c =
     let a = c.args in
     let shape = a.view.now.signature.now in
     let f = code_value a.view.now a.frame.now in
@@ -275,8 +275,8 @@ linked-returns-then-is_empty t c =
     ∙ ap (λ rs. reading shape (code_of a.body.now) rs (shown a.view.now)) (alone_bound f (readings_of shape a.bound.now) c.split_at.result.0.now c.split_at.result.1.now _ none are)
     ∙ ap (bound_value a.view.now a.frame.now a.bound.now a.body.now) (sym c.split_at.ensures.by_index.0)
 
-pub linked-linked-requires : goal.linked-linked-requires
-linked-linked-requires t c =
+pub value::linked-linked-requires : goal.value::linked-linked-requires
+value::linked-linked-requires t c =
     let a = c.args in
     let shape = a.view.now.signature.now in
     let parts = c.split_at.ensures.by_index.0 in
@@ -287,8 +287,8 @@ linked-linked-requires t c =
     let sound = sound_parts shape c.split_at.result.0.now c.split_at.result.1.now (subst (AllSound shape) parts c.requires.sound) in
     (omega (arith, c.decreases, same, split, some), (c.requires.body, (sound.0, (c.requires.framed, c.requires.bound))))
 
-pub linked-returns : goal.linked-returns
-linked-returns t c =
+pub value::linked-returns : goal.value::linked-returns
+value::linked-returns t c =
     let a = c.args in
     let shape = a.view.now.signature.now in
     let f = code_value a.view.now a.frame.now in
@@ -297,8 +297,8 @@ linked-returns t c =
     ∙ ap (λ rs. reading shape (code_of a.body.now) rs (shown a.view.now)) (lasts_bound f (readings_of shape a.bound.now) c.split_at.result.0.now c.split_at.result.1.now _ are)
     ∙ ap (bound_value a.view.now a.frame.now a.bound.now a.body.now) (sym c.split_at.ensures.by_index.0)
 
-pub value-function_at-requires : goal.value-function_at-requires
-value-function_at-requires t c =
+pub value::value-function_at-requires : goal.value::value-function_at-requires
+value::value-function_at-requires t c =
     let a = c.args in
     let shape = a.view.now.signature.now in
     let form = held_form a.code.now c.in-FunctionAt.function c.in-FunctionAt.arguments c.in-FunctionAt.is in
@@ -311,16 +311,16 @@ value-function_at-requires t c =
     let few = sound.1 in
     (omega (arith, c.decreases, whole, as_many), (sound.0, (omega (arith, counted, counts, few), (subst (λ (ts : List Code). AreSound shape (codes_of (map code_of ts))) (sym same) sound.2, c.requires.framed))))
 
-pub with_holds-returns-in-Not : goal.with_holds-returns-in-Not
-with_holds-returns-in-Not t c =
+pub value::with_holds-returns-in-Not : goal.value::with_holds-returns-in-Not
+value::with_holds-returns-in-Not t c =
     let a = c.args in
     let shape = a.view.now.signature.now in
     let rs = readings_of shape a.frame.now in
     let A = shown a.view.now in
     c.fails.ensures ∙ sym (ap (λ o. spec.is_true (reading shape (tree.With o (code_of a.left.now) a.right) rs A)) c.in-Not.is ∙ not_holds shape rs A (code_of a.left.now) a.right)
 
-pub fails-returns-in-Exists : goal.fails-returns-in-Exists
-fails-returns-in-Exists t c =
+pub value::fails-returns-in-Exists : goal.value::fails-returns-in-Exists
+value::fails-returns-in-Exists t c =
     let a = c.args in
     let shape = a.view.now.signature.now in
     let rs = readings_of shape a.frame.now in
@@ -328,8 +328,8 @@ fails-returns-in-Exists t c =
     not_of c.exists.result _ (c.exists.ensures ∙ ap (λ k. reading shape k rs A)
     (ap (λ (k : Code). tree.Exists c.in-Exists.over (code_of k)) c.deref.ensures ∙ sym (exists_form a.code.now c.in-Exists.over c.in-Exists.test c.in-Exists.is)))
 
-pub fails-returns-in-Every : goal.fails-returns-in-Every
-fails-returns-in-Every t c =
+pub value::fails-returns-in-Every : goal.value::fails-returns-in-Every
+value::fails-returns-in-Every t c =
     let a = c.args in
     let shape = a.view.now.signature.now in
     let rs = readings_of shape a.frame.now in
@@ -337,8 +337,8 @@ fails-returns-in-Every t c =
     not_of c.every.result _ (c.every.ensures ∙ ap (λ k. reading shape k rs A)
     (ap (λ (k : Code). tree.Every c.in-Every.over (code_of k)) c.deref-in-Every.ensures ∙ sym (every_form a.code.now c.in-Every.over c.in-Every.test c.in-Every.is)))
 
-pub either_holds-returns-then-is_false : goal.either_holds-returns-then-is_false
-either_holds-returns-then-is_false t c =
+pub value::either_holds-returns-then-is_false : goal.value::either_holds-returns-then-is_false
+value::either_holds-returns-then-is_false t c =
     let a = c.args in
     let shape = a.view.now.signature.now in
     let rs = readings_of shape a.frame.now in
@@ -346,8 +346,8 @@ either_holds-returns-then-is_false t c =
     c.holds.ensures ∙ sym (both_or shape rs A (code_of a.left.now) (code_of a.right.now)
     ∙ or_false (reading shape (code_of a.left.now) rs A) (reading shape (code_of a.right.now) rs A) (ap is_false (sym c.operand-tested.ensures) ∙ sym c.is_false.ensures ∙ c.if-is_false.true))
 
-pub either_holds-returns-then-not-is_true : goal.either_holds-returns-then-not-is_true
-either_holds-returns-then-not-is_true t c =
+pub value::either_holds-returns-then-not-is_true : goal.value::either_holds-returns-then-not-is_true
+value::either_holds-returns-then-not-is_true t c =
     let a = c.args in
     let shape = a.view.now.signature.now in
     let rs = readings_of shape a.frame.now in
@@ -356,8 +356,8 @@ either_holds-returns-then-not-is_true t c =
     ∙ or_neither (reading shape (code_of a.left.now) rs A) (reading shape (code_of a.right.now) rs A) (ap is_false (sym c.operand-tested.ensures) ∙ sym c.is_false.ensures ∙ c.if-is_false.false)
     (ap spec.is_true (sym c.operand-tested.ensures) ∙ sym c.is_true.ensures ∙ c.if-not-is_true.true))
 
-pub either_holds-returns : goal.either_holds-returns
-either_holds-returns t c =
+pub value::either_holds-returns : goal.value::either_holds-returns
+value::either_holds-returns t c =
     let a = c.args in
     let shape = a.view.now.signature.now in
     let rs = readings_of shape a.frame.now in
@@ -365,16 +365,16 @@ either_holds-returns t c =
     c.is_truth.ensures ∙ ap (λ v. spec.is_true v || is_false v) c.operand-other.ensures ∙ sym (both_or shape rs A (code_of a.left.now) (code_of a.right.now)
     ∙ or_true (reading shape (code_of a.left.now) rs A) (reading shape (code_of a.right.now) rs A) (ap spec.is_true (sym c.operand-tested.ensures) ∙ sym c.is_true.ensures ∙ c.if-not-is_true.false))
 
-pub both_hold-returns-in-Or : goal.both_hold-returns-in-Or
-both_hold-returns-in-Or t c =
+pub value::both_hold-returns-in-Or : goal.value::both_hold-returns-in-Or
+value::both_hold-returns-in-Or t c =
     let a = c.args in
     let shape = a.view.now.signature.now in
     let rs = readings_of shape a.frame.now in
     let A = shown a.view.now in
     c.either_holds.ensures ∙ sym (ap (λ o. spec.is_true (reading shape (tree.Both o (code_of a.left.now) (code_of a.right.now)) rs A)) c.in-Or.is)
 
-pub both_hold-returns-then-not-holds : goal.both_hold-returns-then-not-holds
-both_hold-returns-then-not-holds t c =
+pub value::both_hold-returns-then-not-holds : goal.value::both_hold-returns-then-not-holds
+value::both_hold-returns-then-not-holds t c =
     let a = c.args in
     let shape = a.view.now.signature.now in
     let rs = readings_of shape a.frame.now in
@@ -383,8 +383,8 @@ both_hold-returns-then-not-holds t c =
     sym (ap (λ o. spec.is_true (reading shape (tree.Both o (code_of a.left.now) (code_of a.right.now)) rs A)) c.in-And.is ∙ both_and shape rs A (code_of a.left.now) (code_of a.right.now)
     ∙ ap (λ b. b && spec.is_true (reading shape (code_of a.right.now) rs A)) left)
 
-pub both_hold-returns-else-not-holds : goal.both_hold-returns-else-not-holds
-both_hold-returns-else-not-holds t c =
+pub value::both_hold-returns-else-not-holds : goal.value::both_hold-returns-else-not-holds
+value::both_hold-returns-else-not-holds t c =
     let a = c.args in
     let shape = a.view.now.signature.now in
     let rs = readings_of shape a.frame.now in
@@ -394,8 +394,8 @@ both_hold-returns-else-not-holds t c =
     ∙ sym (ap (λ o. spec.is_true (reading shape (tree.Both o (code_of a.left.now) (code_of a.right.now)) rs A)) c.in-And.is ∙ both_and shape rs A (code_of a.left.now) (code_of a.right.now)
     ∙ ap (λ b. b && spec.is_true (reading shape (code_of a.right.now) rs A)) left)
 
-pub all_hold-returns-then-not-holds : goal.all_hold-returns-then-not-holds
-all_hold-returns-then-not-holds t c =
+pub value::all_hold-returns-then-not-holds : goal.value::all_hold-returns-then-not-holds
+value::all_hold-returns-then-not-holds t c =
     let a = c.args in
     let shape = a.view.now.signature.now in
     let rs = readings_of shape a.frame.now in
@@ -403,8 +403,8 @@ all_hold-returns-then-not-holds t c =
     let first = sym c.holds.ensures ∙ c.if-not-holds.true in
     sym (chain_true shape rs A (code_of a.first.now) a.rest.now c.requires.ands ∙ ap (λ b. b && list_all (holds_in shape rs A) a.rest.now) first)
 
-pub all_hold-holds-tested-requires : goal.all_hold-holds-tested-requires
-all_hold-holds-tested-requires t c =
+pub value::all_hold-holds-tested-requires : goal.value::all_hold-holds-tested-requires
+value::all_hold-holds-tested-requires t c =
     let a = c.args in
     let shape = a.view.now.signature.now in
     let small = link_size_within a.rest.now c.loop-i.i c.index-rest-i.result c.loop-i-test.true c.index-rest-i.is in
@@ -412,8 +412,8 @@ all_hold-holds-tested-requires t c =
     let sound = link_sound_within shape a.rest.now c.loop-i.i c.index-rest-i.result c.loop-i-test.true c.index-rest-i.is c.requires.rest in
     (omega (arith, c.decreases, small, same), (subst (λ (l : Op × Code). IsSound shape (code_of l.1)) c.index-rest-i.is sound, c.requires.framed))
 
-pub all_hold-returns-then-not-tested : goal.all_hold-returns-then-not-tested
-all_hold-returns-then-not-tested t c =
+pub value::all_hold-returns-then-not-tested : goal.value::all_hold-returns-then-not-tested
+value::all_hold-returns-then-not-tested t c =
     let a = c.args in
     let shape = a.view.now.signature.now in
     let rs = readings_of shape a.frame.now in
@@ -423,8 +423,8 @@ all_hold-returns-then-not-tested t c =
     let more = list_all_at (holds_in shape rs A) a.rest.now c.loop-i.i c.index-rest-i.result c.loop-i-test.true fails in
     sym (chain_true shape rs A (code_of a.first.now) a.rest.now c.requires.ands ∙ (λ i. first i && more i))
 
-pub all_hold-returns : goal.all_hold-returns
-all_hold-returns t c =
+pub value::all_hold-returns : goal.value::all_hold-returns
+value::all_hold-returns t c =
     let a = c.args in
     let shape = a.view.now.signature.now in
     let rs = readings_of shape a.frame.now in
@@ -435,120 +435,120 @@ all_hold-returns t c =
 
 -- ---- blocks
 
-pub values-returns-in-Constant : goal.values-returns-in-Constant
-values-returns-in-Constant t c k low =
+pub block_values::values-returns-in-Constant : goal.block_values::values-returns-in-Constant
+block_values::values-returns-in-Constant t c k low =
     let a = c.args in
     let shape = a.view.now.signature.now in
     let rs = readings_of shape a.frame.now in
     let A = shown a.view.now in
     c.fill.ensures k (omega (arith, low, c.requires.few)) ∙ of_constant shape (always (at a.elements.now k) ∷ rs) A a.code.now c.in-Constant.value c.in-Constant.is
 
-pub values-returns-in-Local : goal.values-returns-in-Local
-values-returns-in-Local t c k low =
+pub block_values::values-returns-in-Local : goal.block_values::values-returns-in-Local
+block_values::values-returns-in-Local t c k low =
     let a = c.args in
     let shape = a.view.now.signature.now in
     let rs = readings_of shape a.frame.now in
     let A = shown a.view.now in
     c.local_values.ensures k (omega (arith, low, c.requires.few)) ∙ ap (λ t. value_for a.view.now a.frame.now t (at a.elements.now k)) (sym (local_form a.code.now c.in-Local.position c.in-Local.is))
 
-pub values-returns-in-Cell : goal.values-returns-in-Cell
-values-returns-in-Cell t c k low =
+pub block_values::values-returns-in-Cell : goal.block_values::values-returns-in-Cell
+block_values::values-returns-in-Cell t c k low =
     let a = c.args in
     let shape = a.view.now.signature.now in
     let rs = readings_of shape a.frame.now in
     let A = shown a.view.now in
     c.fill-in-Cell.ensures k (omega (arith, low, c.requires.few)) ∙ of_cell shape (always (at a.elements.now k) ∷ rs) A a.code.now c.in-Cell.n c.cell_by_call.result c.in-Cell.is c.cell_by_call.ensures
 
-pub local_values-returns-then-position-eq0 : goal.local_values-returns-then-position-eq0
-local_values-returns-then-position-eq0 t c k low =
+pub block_values::local_values-returns-then-position-eq0 : goal.block_values::local_values-returns-then-position-eq0
+block_values::local_values-returns-then-position-eq0 t c k low =
     let a = c.args in
     let shape = a.view.now.signature.now in
     let rs = readings_of shape a.frame.now in
     let A = shown a.view.now in
     local_first shape rs A (at a.elements.now k) a.position c.if-position-eq0.true
 
-pub local_values-returns : goal.local_values-returns
-local_values-returns t c k low =
+pub block_values::local_values-returns : goal.block_values::local_values-returns
+block_values::local_values-returns t c k low =
     let a = c.args in
     let shape = a.view.now.signature.now in
     let rs = readings_of shape a.frame.now in
     let A = shown a.view.now in
     c.fill.ensures k low ∙ local_later shape rs A (at a.elements.now k) c.local_by_call-content.result a.position (omega arith) c.local_by_call-content.ensures
 
-pub row_values-returns : goal.row_values-returns
-row_values-returns t c k low =
+pub block_values::row_values-returns : goal.block_values::row_values-returns
+block_values::row_values-returns t c k low =
     let a = c.args in
     let shape = a.view.now.signature.now in
     let rs = readings_of shape a.frame.now in
     let A = shown a.view.now in
     row_is shape (always (at a.elements.now k) ∷ rs) A a.first a.over.low a.over.count (code_of a.argument.now) (at c.values.new.out k) (at c.rows_at.new.values k) (c.values.ensures k low) (c.rows_at.ensures k low)
 
-pub grid_values-returns : goal.grid_values-returns
-grid_values-returns t c k low =
+pub block_values::grid_values-returns : goal.block_values::grid_values-returns
+block_values::grid_values-returns t c k low =
     let a = c.args in
     let shape = a.view.now.signature.now in
     let rs = readings_of shape a.frame.now in
     let A = shown a.view.now in
     grid_is shape (always (at a.elements.now k) ∷ rs) A a.place.now.first a.place.now.rows.low a.place.now.rows.count a.place.now.columns.low a.place.now.columns.count (code_of a.row.now) (code_of a.column.now) (at c.values.new.out k) (at c.values-2.new.out k) (at c.grids_at.new.values k) (c.values.ensures k low) (c.values-2.ensures k low) (c.grids_at.ensures k low)
 
-pub with_values-returns : goal.with_values-returns
-with_values-returns t c k low =
+pub block_values::with_values-returns : goal.block_values::with_values-returns
+block_values::with_values-returns t c k low =
     let a = c.args in
     let shape = a.view.now.signature.now in
     let rs = readings_of shape a.frame.now in
     let A = shown a.view.now in
     with_is shape (always (at a.elements.now k) ∷ rs) A a.operation (code_of a.left.now) a.right (at c.values.new.out k) (at c.apply_each.new.values k) (c.values.ensures k low) (c.apply_each.ensures k low)
 
-pub plus_values-returns : goal.plus_values-returns
-plus_values-returns t c k low =
+pub block_values::plus_values-returns : goal.block_values::plus_values-returns
+block_values::plus_values-returns t c k low =
     let a = c.args in
     let shape = a.view.now.signature.now in
     let rs = readings_of shape a.frame.now in
     let A = shown a.view.now in
     with_is shape (always (at a.elements.now k) ∷ rs) A Add (code_of a.left.now) (Number a.right) (at c.values.new.out k) (at c.add_each.new.values k) (c.values.ensures k low) (c.add_each.ensures k low)
 
-pub modulo_values-returns : goal.modulo_values-returns
-modulo_values-returns t c k low =
+pub block_values::modulo_values-returns : goal.block_values::modulo_values-returns
+block_values::modulo_values-returns t c k low =
     let a = c.args in
     let shape = a.view.now.signature.now in
     let rs = readings_of shape a.frame.now in
     let A = shown a.view.now in
     with_is shape (always (at a.elements.now k) ∷ rs) A Remainder (code_of a.left.now) (Number a.right.number) (at c.values.new.out k) (at c.remainder_of_each.new.values k) (c.values.ensures k low) (c.remainder_of_each.ensures k low)
 
-pub equals_values-returns : goal.equals_values-returns
-equals_values-returns t c k low =
+pub block_values::equals_values-returns : goal.block_values::equals_values-returns
+block_values::equals_values-returns t c k low =
     let a = c.args in
     let shape = a.view.now.signature.now in
     let rs = readings_of shape a.frame.now in
     let A = shown a.view.now in
     with_is shape (always (at a.elements.now k) ∷ rs) A Equal (code_of a.left.now) a.right (at c.values.new.out k) (at c.equal_each.new.values k) (c.values.ensures k low) (c.equal_each.ensures k low)
 
-pub plus_modulo_values-returns : goal.plus_modulo_values-returns
-plus_modulo_values-returns t c k low =
+pub block_values::plus_modulo_values-returns : goal.block_values::plus_modulo_values-returns
+block_values::plus_modulo_values-returns t c k low =
     let a = c.args in
     let shape = a.view.now.signature.now in
     let rs = readings_of shape a.frame.now in
     let A = shown a.view.now in
     turned_is shape (always (at a.elements.now k) ∷ rs) A (code_of a.left.now) (Number a.by) (Number a.over.number) (at c.values.new.out k) (at c.add_each.new.values k) (at c.remainder_of_each.new.values k) (c.values.ensures k low) (c.add_each.ensures k low) (c.remainder_of_each.ensures k low)
 
-pub both_values-returns : goal.both_values-returns
-both_values-returns t c k low =
+pub block_values::both_values-returns : goal.block_values::both_values-returns
+block_values::both_values-returns t c k low =
     let a = c.args in
     let shape = a.view.now.signature.now in
     let rs = readings_of shape a.frame.now in
     let A = shown a.view.now in
     both_is shape (always (at a.elements.now k) ∷ rs) A a.operation (code_of a.left.now) (code_of a.right.now) (at c.values.new.out k) (at c.values-2.new.out k) (at c.apply_to_pairs.new.values k) (c.values.ensures k low) (c.values-2.ensures k low) (c.apply_to_pairs.ensures k low)
 
-pub chain_values-loop-i-init : goal.chain_values-loop-i-init
-chain_values-loop-i-init t c k low =
+pub block_values::chain_values-loop-i-init : goal.block_values::chain_values-loop-i-init
+block_values::chain_values-loop-i-init t c k low =
     let a = c.args in
     let shape = a.view.now.signature.now in
     let rs = readings_of shape a.frame.now in
     let A = shown a.view.now in
     chain_begins shape (always (at a.elements.now k) ∷ rs) A (code_of a.first.now) (links_of (map link_of a.rest.now)) (at c.values.new.out k) (c.values.ensures k low)
 
-pub chain_values-values-requires-in-loop-i : goal.chain_values-values-requires-in-loop-i
-chain_values-values-requires-in-loop-i t c =
+pub block_values::chain_values-values-requires-in-loop-i : goal.block_values::chain_values-values-requires-in-loop-i
+block_values::chain_values-values-requires-in-loop-i t c =
     let a = c.args in
     let shape = a.view.now.signature.now in
     let rs = readings_of shape a.frame.now in
@@ -558,8 +558,8 @@ chain_values-values-requires-in-loop-i t c =
     let sound = link_sound_within shape a.rest.now c.loop-i.i c.index-rest-i.result c.loop-i-test.true c.index-rest-i.is c.requires.rest in
     (omega (arith, c.decreases, small, same), (c.requires.few, (subst (λ (l : Op × Code). IsSound shape (code_of l.1)) c.index-rest-i.is sound, c.requires.framed)))
 
-pub chain_values-loop-i-preserved : goal.chain_values-loop-i-preserved
-chain_values-loop-i-preserved t c k low =
+pub block_values::chain_values-loop-i-preserved : goal.block_values::chain_values-loop-i-preserved
+block_values::chain_values-loop-i-preserved t c k low =
     let a = c.args in
     let shape = a.view.now.signature.now in
     let rs = readings_of shape a.frame.now in
@@ -572,16 +572,16 @@ chain_values-loop-i-preserved t c k low =
     (c.values-in-loop-i.ensures k low ∙ ap (λ (l : Op × Code). value_for a.view.now a.frame.now (code_of l.1) (at a.elements.now k)) same)
     (c.apply_to_pairs.ensures k low ∙ ap (λ (l : Op × Code). op l.0 before other) (read_at c.index-rest-i.result a.rest.now c.loop-i.i c.index-rest-i-in-loop-i.result c.loop-i-test.true ∙ same))
 
-pub chain_values-returns : goal.chain_values-returns
-chain_values-returns t c k low =
+pub block_values::chain_values-returns : goal.block_values::chain_values-returns
+block_values::chain_values-returns t c k low =
     let a = c.args in
     let shape = a.view.now.signature.now in
     let rs = readings_of shape a.frame.now in
     let A = shown a.view.now in
     chain_ends shape (always (at a.elements.now k) ∷ rs) A a.rest.now c.loop-i.i (at c.loop-i.out k) _ (omega arith) (c.loop-i.invariant k low)
 
-pub values_singly-loop-k-preserved : goal.values_singly-loop-k-preserved
-values_singly-loop-k-preserved t c =
+pub block_values::values_singly-loop-k-preserved : goal.block_values::values_singly-loop-k-preserved
+block_values::values_singly-loop-k-preserved t c =
     let a = c.args in
     let shape = a.view.now.signature.now in
     let rs = readings_of shape a.frame.now in
@@ -592,8 +592,8 @@ values_singly-loop-k-preserved t c =
     each_more Undef (λ k v. value_for a.view.now a.frame.now (code_of a.code.now) (at a.elements.now k)) _ l.out l.k c.value.result l.invariant low
     (c.value.ensures ∙ ap (value_for a.view.now a.frame.now (code_of a.code.now)) (c.unbranded_code.ensures ∙ read))
 
-pub keep_singly-loop-k-preserved : goal.keep_singly-loop-k-preserved
-keep_singly-loop-k-preserved t c =
+pub keep_holding::keep_singly-loop-k-preserved : goal.keep_holding::keep_singly-loop-k-preserved
+keep_holding::keep_singly-loop-k-preserved t c =
     let a = c.args in
     let shape = a.view.now.signature.now in
     let rs = readings_of shape a.frame.now in
@@ -604,38 +604,38 @@ keep_singly-loop-k-preserved t c =
     let p = holds_for a.view.now a.frame.now (code_of a.code.now) in
     let test = ap p (sym (l.invariant.so_far.rest l.k (omega arith)) ∙ sym read ∙ sym c.unbranded_code.ensures) ∙ sym c.holds.ensures in
     elim c.if-holds.branch [
-      | keep_singly-then-holds w ↦ rw (w.elements-is, w.kept-is) (record {
+      | keep_holding::keep_singly-then-holds w ↦ rw (w.elements-is, w.kept-is) (record {
         room = length-set l.elements l.kept (slice_index_or l.elements l.k c.index-elements-k.result) ∙ l.invariant.room;
         behind = omega arith;
         so_far = keeps_more Undef p _ l.elements l.kept l.k l.invariant.so_far (omega (arith, low)) (test ∙ w.if-holds.true)
             (slice_index_or l.elements l.k c.index-elements-k.result) read (omega (arith, low, l.invariant.room, l.invariant.behind)) l.invariant.behind;
       })
-      | keep_singly-else-holds w ↦ rw (w.elements-is, w.kept-is) (record {
+      | keep_holding::keep_singly-else-holds w ↦ rw (w.elements-is, w.kept-is) (record {
         room = l.invariant.room;
         behind = omega arith;
         so_far = keeps_less Undef p _ l.elements l.kept l.k l.invariant.so_far (omega (arith, low)) (test ∙ w.if-holds.false);
       })
     ]
 
-pub keep_valued-returns-clause-kept : goal.keep_valued-returns-clause-kept
-keep_valued-returns-clause-kept t c =
+pub keep_holding::keep_valued-returns-clause-kept : goal.keep_holding::keep_valued-returns-clause-kept
+keep_holding::keep_valued-returns-clause-kept t c =
     let a = c.args in
     c.keep_tested.ensures.kept (holds_for a.view.now a.frame.now (code_of a.code.now)) (λ k low. ap spec.is_true (c.values.ensures k low))
 
-pub keep_holding-returns-in-Chain-clause-kept : goal.keep_holding-returns-in-Chain-clause-kept
-keep_holding-returns-in-Chain-clause-kept t c =
+pub keep_holding::keep_holding-returns-in-Chain-clause-kept : goal.keep_holding::keep_holding-returns-in-Chain-clause-kept
+keep_holding::keep_holding-returns-in-Chain-clause-kept t c =
     let a = c.args in
     c.keep_chain.ensures.kept
     ∙ ap (λ k. filter (holds_for a.view.now a.frame.now k) (take a.count a.elements.now))
     ((λ i. tree.Chain (code_of (c.deref-in-Chain.ensures i)) (links_of (map link_of (c.as_slice.ensures.value i)))) ∙ sym (chain_form a.code.now c.in-Chain.first c.in-Chain.rest c.in-Chain.is))
 
-pub keep_chain-returns-clause-kept : goal.keep_chain-returns-clause-kept
-keep_chain-returns-clause-kept t c =
+pub keep_holding::keep_chain-returns-clause-kept : goal.keep_holding::keep_chain-returns-clause-kept
+keep_holding::keep_chain-returns-clause-kept t c =
     let a = c.args in
     c.keep_tested.ensures.kept (holds_for a.view.now a.frame.now (tree.Chain (code_of a.first.now) (links_of (map link_of a.rest.now)))) (λ k low. ap spec.is_true (c.chain_values.ensures k low))
 
-pub keep_both-returns-clause-kept : goal.keep_both-returns-clause-kept
-keep_both-returns-clause-kept t c =
+pub keep_holding::keep_both-returns-clause-kept : goal.keep_holding::keep_both-returns-clause-kept
+keep_holding::keep_both-returns-clause-kept t c =
     let a = c.args in
     let shape = a.view.now.signature.now in
     let rs = readings_of shape a.frame.now in
@@ -646,8 +646,8 @@ keep_both-returns-clause-kept t c =
     c.keep_holding.ensures.kept ∙ ap (filter q) c.keep_holding-kept.ensures.kept ∙ filter_twice p q es
     ∙ filter_agree _ _ (λ v. sym (both_and shape (always v ∷ rs) A (code_of a.left.now) (code_of a.right.now))) es
 
-pub keep_ands-loop-i-init : goal.keep_ands-loop-i-init
-keep_ands-loop-i-init t c =
+pub keep_holding::keep_ands-loop-i-init : goal.keep_holding::keep_ands-loop-i-init
+keep_holding::keep_ands-loop-i-init t c =
     let a = c.args in
     let shape = a.view.now.signature.now in
     let rs = readings_of shape a.frame.now in
@@ -658,8 +658,8 @@ keep_ands-loop-i-init t c =
       kept = c.keep_holding-kept.ensures.kept ∙ filter_agree _ _ (λ v. and_nothing (holds_for a.view.now a.frame.now (code_of a.first.now) v)) (take a.count a.elements.now);
     }
 
-pub keep_ands-keep_holding-kept-requires-in-loop-i : goal.keep_ands-keep_holding-kept-requires-in-loop-i
-keep_ands-keep_holding-kept-requires-in-loop-i t c =
+pub keep_holding::keep_ands-keep_holding-kept-requires-in-loop-i : goal.keep_holding::keep_ands-keep_holding-kept-requires-in-loop-i
+keep_holding::keep_ands-keep_holding-kept-requires-in-loop-i t c =
     let a = c.args in
     let shape = a.view.now.signature.now in
     let rs = readings_of shape a.frame.now in
@@ -669,8 +669,8 @@ keep_ands-keep_holding-kept-requires-in-loop-i t c =
     let sound = link_sound_within shape a.rest.now c.loop-i.i c.index-rest-i.result c.loop-i-test.true c.index-rest-i.is c.requires.rest in
     (omega (arith, c.decreases, small, same), (omega (arith, c.requires.few, c.loop-i.invariant.few), (subst (λ (l : Op × Code). IsSound shape (code_of l.1)) c.index-rest-i.is sound, c.requires.framed)))
 
-pub keep_ands-loop-i-preserved : goal.keep_ands-loop-i-preserved
-keep_ands-loop-i-preserved t c =
+pub keep_holding::keep_ands-loop-i-preserved : goal.keep_holding::keep_ands-loop-i-preserved
+keep_holding::keep_ands-loop-i-preserved t c =
     let a = c.args in
     let l = c.loop-i in
     let h = λ (link : Op × Code) (v : Value). holds_for a.view.now a.frame.now (code_of link.1) v in
@@ -682,8 +682,8 @@ keep_ands-loop-i-preserved t c =
           ∙ one_test_more h (holds_for a.view.now a.frame.now (code_of a.first.now)) a.rest.now l.i c.index-rest-i.result (take a.count a.elements.now) c.loop-i-test.true c.index-rest-i.is;
     }
 
-pub keep_ands-returns-clause-kept : goal.keep_ands-returns-clause-kept
-keep_ands-returns-clause-kept t c =
+pub keep_holding::keep_ands-returns-clause-kept : goal.keep_holding::keep_ands-returns-clause-kept
+keep_holding::keep_ands-returns-clause-kept t c =
     let a = c.args in
     let shape = a.view.now.signature.now in
     let rs = readings_of shape a.frame.now in
@@ -693,49 +693,49 @@ keep_ands-returns-clause-kept t c =
     ∙ filter_agree _ _ (λ v. ap (λ links. holds_for a.view.now a.frame.now (code_of a.first.now) v && list_all (holds_in shape (always v ∷ rs) A) links) all
     ∙ sym (chain_true shape (always v ∷ rs) A (code_of a.first.now) a.rest.now c.requires.ands)) (take a.count a.elements.now)
 
-pub exists_from-loop-i-init : goal.exists_from-loop-i-init
-exists_from-loop-i-init t c = refl
+pub value::exists_from-loop-i-init : goal.value::exists_from-loop-i-init
+value::exists_from-loop-i-init t c = refl
 
-pub exists_from-loop-i-preserved : goal.exists_from-loop-i-preserved
-exists_from-loop-i-preserved t c =
+pub value::exists_from-loop-i-preserved : goal.value::exists_from-loop-i-preserved
+value::exists_from-loop-i-preserved t c =
     let a = c.args in
     let l = c.loop-i in
     let p = holds_for a.view.now a.frame.now (code_of a.test.now) in
     l.invariant ∙ none_in_block p l.i c.min-count.result c.keep_holding.result a.universe.now c.elements_from-elements.result c.keep_holding.new.elements c.elements_from-elements.ensures c.keep_holding.ensures.kept (omega (arith, c.keep_holding.ensures.few, c.keep_holding.ensures.room, c.min-count.ensures)) (omega (arith, c.if-keep_holding-gt0.false))
 
-pub exists_from-returns-then-keep_holding-gt0 : goal.exists_from-returns-then-keep_holding-gt0
-exists_from-returns-then-keep_holding-gt0 t c =
+pub value::exists_from-returns-then-keep_holding-gt0 : goal.value::exists_from-returns-then-keep_holding-gt0
+value::exists_from-returns-then-keep_holding-gt0 t c =
     let a = c.args in
     let l = c.loop-i in
     let p = holds_for a.view.now a.frame.now (code_of a.test.now) in
     sym (l.invariant ∙ any_in_block p l.i c.min-count.result c.keep_holding.result a.universe.now c.elements_from-elements.result c.keep_holding.new.elements c.elements_from-elements.ensures c.keep_holding.ensures.kept (omega (arith, c.keep_holding.ensures.few, c.keep_holding.ensures.room, c.min-count.ensures)) c.if-keep_holding-gt0.true)
 
-pub exists_from-returns : goal.exists_from-returns
-exists_from-returns t c =
+pub value::exists_from-returns : goal.value::exists_from-returns
+value::exists_from-returns t c =
     let a = c.args in
     let l = c.loop-i in
     let p = holds_for a.view.now a.frame.now (code_of a.test.now) in
     sym (l.invariant ∙ ap (list_any p) (drop_all l.i a.universe.now (omega (arith, c.size-size.ensures.size))))
 
-pub every_from-loop-i-init : goal.every_from-loop-i-init
-every_from-loop-i-init t c = refl
+pub value::every_from-loop-i-init : goal.value::every_from-loop-i-init
+value::every_from-loop-i-init t c = refl
 
-pub every_from-loop-i-preserved : goal.every_from-loop-i-preserved
-every_from-loop-i-preserved t c =
+pub value::every_from-loop-i-preserved : goal.value::every_from-loop-i-preserved
+value::every_from-loop-i-preserved t c =
     let a = c.args in
     let l = c.loop-i in
     let p = holds_for a.view.now a.frame.now (code_of a.test.now) in
     l.invariant ∙ all_in_block p l.i c.min-count.result c.keep_holding.result a.universe.now c.elements_from-elements.result c.keep_holding.new.elements c.elements_from-elements.ensures c.keep_holding.ensures.kept (omega (arith, c.keep_holding.ensures.few, c.keep_holding.ensures.room, c.min-count.ensures)) (omega (arith, c.loop-i-test.true, c.size-size.ensures.size, c.min-count.ensures)) c.if-keep_holding-count.false
 
-pub every_from-returns-then-keep_holding-count : goal.every_from-returns-then-keep_holding-count
-every_from-returns-then-keep_holding-count t c =
+pub value::every_from-returns-then-keep_holding-count : goal.value::every_from-returns-then-keep_holding-count
+value::every_from-returns-then-keep_holding-count t c =
     let a = c.args in
     let l = c.loop-i in
     let p = holds_for a.view.now a.frame.now (code_of a.test.now) in
     sym (l.invariant ∙ some_fails_in_block p l.i c.min-count.result c.keep_holding.result a.universe.now c.elements_from-elements.result c.keep_holding.new.elements c.elements_from-elements.ensures c.keep_holding.ensures.kept (omega (arith, c.keep_holding.ensures.few, c.keep_holding.ensures.room, c.min-count.ensures)) (omega (arith, c.loop-i-test.true, c.size-size.ensures.size, c.min-count.ensures)) c.if-keep_holding-count.true)
 
-pub every_from-returns : goal.every_from-returns
-every_from-returns t c =
+pub value::every_from-returns : goal.value::every_from-returns
+value::every_from-returns t c =
     let a = c.args in
     let l = c.loop-i in
     let p = holds_for a.view.now a.frame.now (code_of a.test.now) in
