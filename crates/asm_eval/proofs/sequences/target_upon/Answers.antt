@@ -7,7 +7,7 @@ use Rattle.asm_code.specs.code.RuleMeaning.{optional_target_location}
 use Rattle.asm_code.specs.code.RuleViews.{target_code_of}
 use Rattle.asm_eval.specs.code.Frames.{readings_of}
 use Rattle.asm_eval.specs.code.Evaluation.{evaluation_shape, frame_locations, location_numbered}
-use Rattle.asm_eval.proofs.form.target_upon.Goals as goal
+use Rattle.asm_eval.proofs.sequences.target_upon.Goals as goal
 
 pub returns-clause-in_range : goal.returns-clause-in_range
 returns-clause-in_range g c =

@@ -5,7 +5,7 @@ use Rattle.asm_code.specs.code.CodeViews.{code_of}
 use Rattle.asm_code.specs.code.Readings.{reading}
 use Rattle.asm_eval.specs.code.Frames.{readings_of}
 use Rattle.asm_eval.specs.code.Evaluation.{evaluation_shape}
-use Rattle.asm_eval.proofs.form.holds_upon.Goals as goal
+use Rattle.asm_eval.proofs.sequences.holds_upon.Goals as goal
 
 pub returns : goal.returns
 returns g c U stands consistent =

@@ -17,70 +17,70 @@ use Rattle.asm_eval.specs.code.Evaluation.{evaluation_shape, evaluation_state, e
 use Rattle.asm_eval.proofs.CodeSequences.{parts_left, turns_left}
 use Rattle.asm_eval.proofs.SequencesUpon.{IsUpon}
 use Rattle.asm_eval.proofs.SpanElements.{IsLeft}
-use Rattle.asm_eval.proofs.form.+form.Given as goal
+use Rattle.asm_eval.proofs.+form.Given as goal
 
 -- ---- that it ends: each goes by the rule that it forms
 
-abbrev pub decreases-form : goal.decreases-form
-decreases-form g l = 8 * rule_size (rule_of l.rule.now) + 1
+abbrev pub decreases-form::form : goal.decreases-form::form
+decreases-form::form g l = 8 * rule_size (rule_of l.rule.now) + 1
 
-abbrev pub decreases-form_if : goal.decreases-form_if
-decreases-form_if g l = 8 * (rule_size (rule_of l.yes.now) + rule_size (rule_of l.no.now)) + 7
+abbrev pub decreases-form::form_if : goal.decreases-form::form_if
+decreases-form::form_if g l = 8 * (rule_size (rule_of l.yes.now) + rule_size (rule_of l.no.now)) + 7
 
-abbrev pub decreases-form_let : goal.decreases-form_let
-decreases-form_let g l = 8 * rule_size (rule_of l.body.now) + 7
+abbrev pub decreases-form::form_let : goal.decreases-form::form_let
+decreases-form::form_let g l = 8 * rule_size (rule_of l.body.now) + 7
 
-abbrev pub decreases-form_choose : goal.decreases-form_choose
-decreases-form_choose g l = 8 * (rule_size (rule_of l.body.now) + rule_size (rule_of l.none.now)) + 7
+abbrev pub decreases-form::form_choose : goal.decreases-form::form_choose
+decreases-form::form_choose g l = 8 * (rule_size (rule_of l.body.now) + rule_size (rule_of l.none.now)) + 7
 
-abbrev pub decreases-form_call : goal.decreases-form_call
-decreases-form_call g l = 8 * rule_size (rule_of l.body.now) + 7
+abbrev pub decreases-form::form_call : goal.decreases-form::form_call
+decreases-form::form_call g l = 8 * rule_size (rule_of l.body.now) + 7
 
-abbrev pub decreases-form_part : goal.decreases-form_part
-decreases-form_part g l = 8 * rule_size (rule_of l.rule.now) + 2
+abbrev pub decreases-form::form_part : goal.decreases-form::form_part
+decreases-form::form_part g l = 8 * rule_size (rule_of l.rule.now) + 2
 
-abbrev pub decreases-form_all : goal.decreases-form_all
-decreases-form_all g l = 8 * rule_sizes (rules_of (map rule_of l.parts.now)) + 3
+abbrev pub decreases-form::form_all : goal.decreases-form::form_all
+decreases-form::form_all g l = 8 * rule_sizes (rules_of (map rule_of l.parts.now)) + 3
 
-abbrev pub decreases-form_span : goal.decreases-form_span
-decreases-form_span g l = 8 * rule_size (rule_of l.body.now) + 3
+abbrev pub decreases-form::form_span : goal.decreases-form::form_span
+decreases-form::form_span g l = 8 * rule_size (rule_of l.body.now) + 3
 
-abbrev pub decreases-form_in_order : goal.decreases-form_in_order
-decreases-form_in_order g l = 8 * rule_sizes (rules_of (map rule_of l.parts.now)) + 7
+abbrev pub decreases-sequences::form_in_order : goal.decreases-sequences::form_in_order
+decreases-sequences::form_in_order g l = 8 * rule_sizes (rules_of (map rule_of l.parts.now)) + 7
 
-abbrev pub decreases-form_turns : goal.decreases-form_turns
-decreases-form_turns g l = 8 * rule_size (rule_of l.body.now) + 7
+abbrev pub decreases-sequences::form_turns : goal.decreases-sequences::form_turns
+decreases-sequences::form_turns g l = 8 * rule_size (rule_of l.body.now) + 7
 
-abbrev pub decreases-merge_in_order : goal.decreases-merge_in_order
-decreases-merge_in_order g l = 8 * rule_sizes (rules_of (map rule_of l.parts.now)) + 6
+abbrev pub decreases-sequences::merge_in_order : goal.decreases-sequences::merge_in_order
+decreases-sequences::merge_in_order g l = 8 * rule_sizes (rules_of (map rule_of l.parts.now)) + 6
 
-abbrev pub decreases-merge_turns : goal.decreases-merge_turns
-decreases-merge_turns g l = 8 * rule_size (rule_of l.body.now) + 6
+abbrev pub decreases-sequences::merge_turns : goal.decreases-sequences::merge_turns
+decreases-sequences::merge_turns g l = 8 * rule_size (rule_of l.body.now) + 6
 
-abbrev pub decreases-merge_if : goal.decreases-merge_if
-decreases-merge_if g l = 8 * (rule_size (rule_of l.yes.now) + rule_size (rule_of l.no.now)) + 6
+abbrev pub decreases-sequences::merge_if : goal.decreases-sequences::merge_if
+decreases-sequences::merge_if g l = 8 * (rule_size (rule_of l.yes.now) + rule_size (rule_of l.no.now)) + 6
 
-abbrev pub decreases-merge_call : goal.decreases-merge_call
-decreases-merge_call g l = 8 * rule_size (rule_of l.body.now) + 6
+abbrev pub decreases-sequences::merge_call : goal.decreases-sequences::merge_call
+decreases-sequences::merge_call g l = 8 * rule_size (rule_of l.body.now) + 6
 
-abbrev pub decreases-form_next : goal.decreases-form_next
-decreases-form_next g l = 8 * rule_size (rule_of l.rule.now) + 5
+abbrev pub decreases-sequences::form_next : goal.decreases-sequences::form_next
+decreases-sequences::form_next g l = 8 * rule_size (rule_of l.rule.now) + 5
 
-abbrev pub decreases-merge_numbered : goal.decreases-merge_numbered
-decreases-merge_numbered g l = 8 * rule_size (rule_of l.rule.now) + 4
+abbrev pub decreases-sequences::merge_numbered : goal.decreases-sequences::merge_numbered
+decreases-sequences::merge_numbered g l = 8 * rule_size (rule_of l.rule.now) + 4
 
-abbrev pub decreases-merge_rule : goal.decreases-merge_rule
-decreases-merge_rule g l = 8 * rule_size (rule_of l.rule.now) + 3
+abbrev pub decreases-sequences::merge_rule : goal.decreases-sequences::merge_rule
+decreases-sequences::merge_rule g l = 8 * rule_size (rule_of l.rule.now) + 3
 
-abbrev pub decreases-form_upon : goal.decreases-form_upon
-decreases-form_upon g l = 8 * rule_size (rule_of l.rule.now) + 2
+abbrev pub decreases-sequences::form_upon : goal.decreases-sequences::form_upon
+decreases-sequences::form_upon g l = 8 * rule_size (rule_of l.rule.now) + 2
 
 -- ---- the loops
 
 -- whatever follows what the parts yield that are left follows what all of them yield, from the
 -- start on
-abbrev pub invariant-form_all-loop-i : goal.invariant-form_all-loop-i
-invariant-form_all-loop-i g l = record {
+abbrev pub invariant-form::form_all-loop-i : goal.invariant-form::form_all-loop-i
+invariant-form::form_all-loop-i g l = record {
   ready : g.G.Regions.is_ready l.regions;
   same_count : l.forming.set.count ≡ l.initial.forming.set.count;
   same_path : l.forming.path.items ≡ l.initial.forming.path.items;
@@ -89,13 +89,13 @@ invariant-form_all-loop-i g l = record {
       → Follows (evaluation_shape l.evaluation) (parts_at l.evaluation l.frame l.initial.forming.path.items 0 (rules_of (map rule_of l.parts))) l.initial.forming new r;
 }
 
-abbrev pub decreases-form_span-loop-i : goal.decreases-form_span-loop-i
-decreases-form_span-loop-i g l = l.to - l.i
+abbrev pub decreases-form::form_span-loop-i : goal.decreases-form::form_span-loop-i
+decreases-form::form_span-loop-i g l = l.to - l.i
 
 -- whatever follows what is left of the values of an interval follows the whole: left are those
 -- from a position on for which the condition holds
-abbrev pub invariant-form_span-loop-i : goal.invariant-form_span-loop-i
-invariant-form_span-loop-i g l =
+abbrev pub invariant-form::form_span-loop-i : goal.invariant-form::form_span-loop-i
+invariant-form::form_span-loop-i g l =
     let shape = evaluation_shape l.evaluation in
     let us = universe_at shape l.over in
     let passes = is_passing l.evaluation.view.now l.frame l.test in
@@ -110,8 +110,8 @@ invariant-form_span-loop-i g l =
     }
 
 -- and those of a block that are left
-abbrev pub invariant-form_span-loop-k : goal.invariant-form_span-loop-k
-invariant-form_span-loop-k g l =
+abbrev pub invariant-form::form_span-loop-k : goal.invariant-form::form_span-loop-k
+invariant-form::form_span-loop-k g l =
     let shape = evaluation_shape l.evaluation in
     let us = universe_at shape l.over in
     let passes = is_passing l.evaluation.view.now l.frame l.test in
@@ -127,8 +127,8 @@ invariant-form_span-loop-k g l =
 
 -- after each set that the sets so far may stand for: those of the parts, and what is left of the
 -- parts
-abbrev pub invariant-merge_in_order-loop-i : goal.invariant-merge_in_order-loop-i
-invariant-merge_in_order-loop-i g l =
+abbrev pub invariant-sequences::merge_in_order-loop-i : goal.invariant-sequences::merge_in_order-loop-i
+invariant-sequences::merge_in_order-loop-i g l =
     let shape = evaluation_shape l.evaluation in
     record {
       ready : g.G.Regions.is_ready l.regions;
@@ -143,8 +143,8 @@ invariant-merge_in_order-loop-i g l =
     }
 
 -- the same of the turns
-abbrev pub invariant-merge_turns-loop-turn : goal.invariant-merge_turns-loop-turn
-invariant-merge_turns-loop-turn g l =
+abbrev pub invariant-sequences::merge_turns-loop-turn : goal.invariant-sequences::merge_turns-loop-turn
+invariant-sequences::merge_turns-loop-turn g l =
     let shape = evaluation_shape l.evaluation in
     record {
       ready : g.G.Regions.is_ready l.regions;

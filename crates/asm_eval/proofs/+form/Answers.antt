@@ -38,7 +38,7 @@ use Rattle.asm_eval.proofs.SequencesUpon.{none_consistent, upon_begins, upon_sam
 use Rattle.asm_eval.proofs.SingleUpdates.{single_shown, single_upon, goes_by_none, goes_by_one}
 use Rattle.asm_eval.specs.declared.one_update.OneUpdate.TheVariants as single
 use Rattle.std.proofs.lemmas.Result.{on_ok_weaker}
-use Rattle.asm_eval.proofs.form.+form.Goals as goal
+use Rattle.asm_eval.proofs.+form.Goals as goal
 
 -- what the body yields for a value
 abbrev element_does : {P : Type 0} {picks : Ghosts P} → Evaluation P picks → Frame → Path → ℕ → Value → RuleCode → Outcome
@@ -48,22 +48,22 @@ element_does r f q k v body = meaning (evaluation_shape r) r.turns (evaluation_c
 nothing_done : (shape : Shape) (o : Outcome) (old new : Forming) (region : RegionOutcome) → region ≡ regions.Left → IsFormedOrLeft shape o old new (Ok region) → new ≡ old
 nothing_done shape o old new region is taken = subst (λ it. IsFormedOrLeft shape o old new (Ok it)) is taken
 
-pub form-returns-in-Skip-clause-formed : goal.form-returns-in-Skip-clause-formed
-form-returns-in-Skip-clause-formed g t c =
+pub form::form-returns-in-Skip-clause-formed : goal.form::form-returns-in-Skip-clause-formed
+form::form-returns-in-Skip-clause-formed g t c =
     let a = c.args in
     let r = a.evaluation.now in
     let shape = evaluation_shape r in
     follows_nothing shape tt _ a.forming.now (skip_yields shape r.turns (evaluation_choices r) (readings_of shape a.frame.now) (frame_locations shape a.frame.now) (evaluation_state r) a.forming.now.path.items a.rule.now c.in-Skip.is)
 
-pub form-returns-in-Assign-clause-formed : goal.form-returns-in-Assign-clause-formed
-form-returns-in-Assign-clause-formed g t c =
+pub form::form-returns-in-Assign-clause-formed : goal.form::form-returns-in-Assign-clause-formed
+form::form-returns-in-Assign-clause-formed g t c =
     let a = c.args in
     let r = a.evaluation.now in
     let shape = evaluation_shape r in
     follows_same shape c.assign.result _ _ _ _ (assign_yields shape r.turns (evaluation_choices r) (readings_of shape a.frame.now) (frame_locations shape a.frame.now) (evaluation_state r) a.forming.now.path.items a.rule.now c.in-Assign.place c.in-Assign.value c.in-Assign.is _ _ refl refl) c.assign.ensures
 
-pub form-returns-in-Left-clause-formed : goal.form-returns-in-Left-clause-formed
-form-returns-in-Left-clause-formed g t c =
+pub form::form-returns-in-Left-clause-formed : goal.form::form-returns-in-Left-clause-formed
+form::form-returns-in-Left-clause-formed g t c =
     let a = c.args in
     let r = a.evaluation.now in
     let shape = evaluation_shape r in
@@ -74,8 +74,8 @@ form-returns-in-Left-clause-formed g t c =
     (par_yields shape r.turns (evaluation_choices r) (readings_of shape a.frame.now) (frame_locations shape a.frame.now) (evaluation_state r) left.path.items a.rule.now c.in-Par.parts c.in-Par.is c.as_slice.result.now c.as_slice.ensures.value)
     c.form_all.ensures.formed)
 
-pub form-returns-in-Seq-clause-formed : goal.form-returns-in-Seq-clause-formed
-form-returns-in-Seq-clause-formed g t c =
+pub form::form-returns-in-Seq-clause-formed : goal.form::form-returns-in-Seq-clause-formed
+form::form-returns-in-Seq-clause-formed g t c =
     let a = c.args in
     let r = a.evaluation.now in
     let shape = evaluation_shape r in
@@ -83,8 +83,8 @@ form-returns-in-Seq-clause-formed g t c =
     (seq_yields shape r.turns (evaluation_choices r) (readings_of shape a.frame.now) (frame_locations shape a.frame.now) (evaluation_state r) a.forming.now.path.items a.rule.now c.in-Seq.parts c.in-Seq.is c.as_slice-in-Seq.result.now c.as_slice-in-Seq.ensures.value)
     c.form_in_order.ensures.formed
 
-pub form-returns-in-If-clause-formed : goal.form-returns-in-If-clause-formed
-form-returns-in-If-clause-formed g t c =
+pub form::form-returns-in-If-clause-formed : goal.form::form-returns-in-If-clause-formed
+form::form-returns-in-If-clause-formed g t c =
     let a = c.args in
     let r = a.evaluation.now in
     let shape = evaluation_shape r in
@@ -92,31 +92,31 @@ form-returns-in-If-clause-formed g t c =
     (if_is shape r.turns (evaluation_choices r) (readings_of shape a.frame.now) (frame_locations shape a.frame.now) (evaluation_state r) a.forming.now.path.items a.rule.now c.in-If.test c.in-If.yes c.in-If.no c.in-If.is _ c.deref.result.now c.deref-in-If.result.now refl c.deref.ensures c.deref-in-If.ensures)
     c.form_if.ensures.formed
 
-pub form_if-returns-then-holds-clause-formed : goal.form_if-returns-then-holds-clause-formed
-form_if-returns-then-holds-clause-formed g t c =
+pub form::form_if-returns-then-holds-clause-formed : goal.form::form_if-returns-then-holds-clause-formed
+form::form_if-returns-then-holds-clause-formed g t c =
     let a = c.args in
     let r = a.evaluation.now in
     let shape = evaluation_shape r in
     follows_same shape c.form_part.result _ _ _ _
     (if_yes shape r.turns (evaluation_choices r) (readings_of shape a.frame.now) (frame_locations shape a.frame.now) (evaluation_state r) a.forming.now.path.items a.test.now a.yes.now a.no.now (sym c.holds.ensures ∙ c.if-holds.true)) c.form_part.ensures.formed
 
-pub form_if-returns-in-Skip-clause-formed : goal.form_if-returns-in-Skip-clause-formed
-form_if-returns-in-Skip-clause-formed g t c =
+pub form::form_if-returns-in-Skip-clause-formed : goal.form::form_if-returns-in-Skip-clause-formed
+form::form_if-returns-in-Skip-clause-formed g t c =
     let a = c.args in
     let r = a.evaluation.now in
     let shape = evaluation_shape r in
     follows_nothing shape tt _ _ (if_left_out shape r.turns (evaluation_choices r) (readings_of shape a.frame.now) (frame_locations shape a.frame.now) (evaluation_state r) a.forming.now.path.items a.test.now a.yes.now a.no.now (sym c.holds.ensures ∙ c.if-holds.false) c.in-Skip.is)
 
-pub form_if-returns-in_default-clause-formed : goal.form_if-returns-in_default-clause-formed
-form_if-returns-in_default-clause-formed g t c =
+pub form::form_if-returns-in_default-clause-formed : goal.form::form_if-returns-in_default-clause-formed
+form::form_if-returns-in_default-clause-formed g t c =
     let a = c.args in
     let r = a.evaluation.now in
     let shape = evaluation_shape r in
     follows_same shape c.form_part-in_default.result _ _ _ _
     (if_no shape r.turns (evaluation_choices r) (readings_of shape a.frame.now) (frame_locations shape a.frame.now) (evaluation_state r) a.forming.now.path.items a.test.now a.yes.now a.no.now (sym c.holds.ensures ∙ c.if-holds.false)) c.form_part-in_default.ensures.formed
 
-pub form-returns-in-Let-clause-formed : goal.form-returns-in-Let-clause-formed
-form-returns-in-Let-clause-formed g t c =
+pub form::form-returns-in-Let-clause-formed : goal.form::form-returns-in-Let-clause-formed
+form::form-returns-in-Let-clause-formed g t c =
     let a = c.args in
     let r = a.evaluation.now in
     let shape = evaluation_shape r in
@@ -124,24 +124,24 @@ form-returns-in-Let-clause-formed g t c =
     (let_is shape r.turns (evaluation_choices r) (readings_of shape a.frame.now) (frame_locations shape a.frame.now) (evaluation_state r) a.forming.now.path.items a.rule.now c.in-Let.value c.in-Let.body c.in-Let.is _ c.deref-in-Let.result.now refl c.deref-in-Let.ensures)
     c.form_let.ensures.formed
 
-pub form_let-returns-clause-formed : goal.form_let-returns-clause-formed
-form_let-returns-clause-formed g t c =
+pub form::form_let-returns-clause-formed : goal.form::form_let-returns-clause-formed
+form::form_let-returns-clause-formed g t c =
     let a = c.args in
     let r = a.evaluation.now in
     let shape = evaluation_shape r in
     follows_same shape c.form_part.result _ _ _ _
     (let_with shape r.turns (evaluation_choices r) (readings_of shape a.frame.now) (frame_locations shape a.frame.now) (evaluation_state r) a.forming.now.path.items a.term.now a.body.now (value_of_code c.unbranded_code.result.value) (c.unbranded_code.ensures ∙ c.value-value.ensures)) c.form_part.ensures.formed
 
-pub form_all-form_part-requires : goal.form_all-form_part-requires
-form_all-form_part-requires g t c κs within =
+pub form::form_all-form_part-requires : goal.form::form_all-form_part-requires
+form::form_all-form_part-requires g t c κs within =
     let a = c.args in
     let r = a.evaluation.now in
     let shape = evaluation_shape r in
     let small = size_of_part a.parts.now c.loop-i.i c.index-parts-i.result c.loop-i-test.true c.index-parts-i.is in
     (omega (arith, c.decreases, small), (search rules, (search rules, (sound_part shape a.parts.now c.loop-i.i c.index-parts-i.result c.loop-i-test.true c.index-parts-i.is c.requires.sound, (c.requires.framed, (c.loop-i.invariant.ready, c.loop-i.invariant.same_count ∙ c.requires.fits))))))
 
-pub form_all-loop-i-preserved : goal.form_all-loop-i-preserved
-form_all-loop-i-preserved g t c =
+pub form::form_all-loop-i-preserved : goal.form::form_all-loop-i-preserved
+form::form_all-loop-i-preserved g t c =
     let a = c.args in
     let r = a.evaluation.now in
     let shape = evaluation_shape r in
@@ -157,16 +157,16 @@ form_all-loop-i-preserved g t c =
           rest));
     }
 
-pub form_all-returns-clause-formed : goal.form_all-returns-clause-formed
-form_all-returns-clause-formed g t c =
+pub form::form_all-returns-clause-formed : goal.form::form_all-returns-clause-formed
+form::form_all-returns-clause-formed g t c =
     let a = c.args in
     let r = a.evaluation.now in
     let shape = evaluation_shape r in
     let l = c.loop-i in
     l.invariant.follows _ _ (follows_nothing shape tt _ _ (none_yields shape r.turns (evaluation_choices r) (readings_of shape a.frame.now) (frame_locations shape a.frame.now) (evaluation_state r) a.forming.now.path.items a.parts.now l.i (omega arith)))
 
-pub form_all-returns-in_err-form_part-clause-formed : goal.form_all-returns-in_err-form_part-clause-formed
-form_all-returns-in_err-form_part-clause-formed g t c =
+pub form::form_all-returns-in_err-form_part-clause-formed : goal.form::form_all-returns-in_err-form_part-clause-formed
+form::form_all-returns-in_err-form_part-clause-formed g t c =
     let a = c.args in
     let r = a.evaluation.now in
     let shape = evaluation_shape r in
@@ -178,8 +178,8 @@ form_all-returns-in_err-form_part-clause-formed g t c =
 
 -- ---- sequences
 
-pub form_in_order-returns-clause-formed : goal.form_in_order-returns-clause-formed
-form_in_order-returns-clause-formed g t c =
+pub sequences::form_in_order-returns-clause-formed : goal.sequences::form_in_order-returns-clause-formed
+sequences::form_in_order-returns-clause-formed g t c =
     let a = c.args in
     let r = a.evaluation.now in
     let shape = evaluation_shape r in
@@ -194,8 +194,8 @@ form_in_order-returns-clause-formed g t c =
       exhausted = stopped_for_memory (in_order_at r a.frame.now a.forming.now.path.items Rs) _ c.put_back.result c.put_back.ensures.stopped;
     }
 
-pub form_in_order-returns-in_err-merge_in_order-clause-formed : goal.form_in_order-returns-in_err-merge_in_order-clause-formed
-form_in_order-returns-in_err-merge_in_order-clause-formed g t c =
+pub sequences::form_in_order-returns-in_err-merge_in_order-clause-formed : goal.sequences::form_in_order-returns-in_err-merge_in_order-clause-formed
+sequences::form_in_order-returns-in_err-merge_in_order-clause-formed g t c =
     let a = c.args in
     let r = a.evaluation.now in
     let shape = evaluation_shape r in
@@ -209,8 +209,8 @@ form_in_order-returns-in_err-merge_in_order-clause-formed g t c =
           (c.merge_in_order.ensures.formed.exhausted none (c.new-so_far.ensures.empty shape c.count.ensures.sound c.count.ensures.count) none_consistent);
     }
 
-pub form_turns-returns-clause-formed : goal.form_turns-returns-clause-formed
-form_turns-returns-clause-formed g t c =
+pub sequences::form_turns-returns-clause-formed : goal.sequences::form_turns-returns-clause-formed
+sequences::form_turns-returns-clause-formed g t c =
     let a = c.args in
     let r = a.evaluation.now in
     let shape = evaluation_shape r in
@@ -225,8 +225,8 @@ form_turns-returns-clause-formed g t c =
       exhausted = stopped_for_memory (rule_at r a.frame.now a.forming.now.path.items R) _ c.put_back.result c.put_back.ensures.stopped;
     }
 
-pub form_turns-returns-in_err-merge_turns-clause-formed : goal.form_turns-returns-in_err-merge_turns-clause-formed
-form_turns-returns-in_err-merge_turns-clause-formed g t c =
+pub sequences::form_turns-returns-in_err-merge_turns-clause-formed : goal.sequences::form_turns-returns-in_err-merge_turns-clause-formed
+sequences::form_turns-returns-in_err-merge_turns-clause-formed g t c =
     let a = c.args in
     let r = a.evaluation.now in
     let shape = evaluation_shape r in
@@ -242,8 +242,8 @@ form_turns-returns-in_err-merge_turns-clause-formed g t c =
 
 -- ---- parts
 
-pub merge_in_order-loop-i-init : goal.merge_in_order-loop-i-init
-merge_in_order-loop-i-init g t c =
+pub sequences::merge_in_order-loop-i-init : goal.sequences::merge_in_order-loop-i-init
+sequences::merge_in_order-loop-i-init g t c =
     let a = c.args in
     let r = a.evaluation.now in
     let shape = evaluation_shape r in
@@ -257,8 +257,8 @@ merge_in_order-loop-i-init g t c =
           a.so_far.now a.forming.now.instances refl (omega (arith, a.forming.now.in_range)) stands;
     }
 
-pub merge_in_order-form_next-requires : goal.merge_in_order-form_next-requires
-merge_in_order-form_next-requires g t c κs within =
+pub sequences::merge_in_order-form_next-requires : goal.sequences::merge_in_order-form_next-requires
+sequences::merge_in_order-form_next-requires g t c κs within =
     let a = c.args in
     let r = a.evaluation.now in
     let shape = evaluation_shape r in
@@ -267,8 +267,8 @@ merge_in_order-form_next-requires g t c κs within =
     let alone = l.invariant.same_count ∙ c.requires.fits in
     (omega (arith, c.decreases, small), (search rules, (search rules, (sound_part shape a.parts.now l.i c.index-parts-i.result c.loop-i-test.true c.index-parts-i.is c.requires.sound, (c.requires.framed, (l.invariant.ready, (alone, l.invariant.counted)))))))
 
-pub merge_in_order-loop-i-preserved : goal.merge_in_order-loop-i-preserved
-merge_in_order-loop-i-preserved g t c =
+pub sequences::merge_in_order-loop-i-preserved : goal.sequences::merge_in_order-loop-i-preserved
+sequences::merge_in_order-loop-i-preserved g t c =
     let a = c.args in
     let r = a.evaluation.now in
     let shape = evaluation_shape r in
@@ -288,8 +288,8 @@ merge_in_order-loop-i-preserved g t c =
           (c.joined-whole.ensures under.set on.set under.consistent under.is on.is);
     }
 
-pub merge_in_order-returns-clause-formed : goal.merge_in_order-returns-clause-formed
-merge_in_order-returns-clause-formed g t c =
+pub sequences::merge_in_order-returns-clause-formed : goal.sequences::merge_in_order-returns-clause-formed
+sequences::merge_in_order-returns-clause-formed g t c =
     let a = c.args in
     let r = a.evaluation.now in
     let shape = evaluation_shape r in
@@ -303,8 +303,8 @@ merge_in_order-returns-clause-formed g t c =
       exhausted = λ U stands consistent. tt;
     }
 
-pub merge_in_order-returns-then-ends_parts-clause-formed : goal.merge_in_order-returns-then-ends_parts-clause-formed
-merge_in_order-returns-then-ends_parts-clause-formed g t c =
+pub sequences::merge_in_order-returns-then-ends_parts-clause-formed : goal.sequences::merge_in_order-returns-then-ends_parts-clause-formed
+sequences::merge_in_order-returns-then-ends_parts-clause-formed g t c =
     let a = c.args in
     let r = a.evaluation.now in
     let shape = evaluation_shape r in
@@ -324,8 +324,8 @@ merge_in_order-returns-then-ends_parts-clause-formed g t c =
       exhausted = λ U stands consistent. tt;
     }
 
-pub merge_in_order-returns-in_err-part-clause-formed : goal.merge_in_order-returns-in_err-part-clause-formed
-merge_in_order-returns-in_err-part-clause-formed g t c =
+pub sequences::merge_in_order-returns-in_err-part-clause-formed : goal.sequences::merge_in_order-returns-in_err-part-clause-formed
+sequences::merge_in_order-returns-in_err-part-clause-formed g t c =
     let a = c.args in
     let r = a.evaluation.now in
     let shape = evaluation_shape r in
@@ -343,14 +343,14 @@ merge_in_order-returns-in_err-part-clause-formed g t c =
           (c.form_next.ensures.formed.exhausted (merge U under.set) under.stands (merge_laws.consistent U under.set consistent under.consistent));
     }
 
-pub form_next-merge_update-requires-clause-location : goal.form_next-merge_update-requires-clause-location
-form_next-merge_update-requires-clause-location g t c =
+pub sequences::form_next-merge_update-requires-clause-location : goal.sequences::form_next-merge_update-requires-clause-location
+sequences::form_next-merge_update-requires-clause-location g t c =
     let a = c.args in
     (single_shown a.evaluation.now c.upon-view.result a.frame.now (rule_of a.rule.now) (at a.forming.now.path.items a.number) c.upon-view.ensures.signature
     c.in_ok-single_update.field-0 (single.Update c.in-Update.n c.in-Update.value) c.in-Update.is c.in_ok-single_update.ensures).0
 
-pub form_next-returns-in-Nothing-clause-formed : goal.form_next-returns-in-Nothing-clause-formed
-form_next-returns-in-Nothing-clause-formed g t c =
+pub sequences::form_next-returns-in-Nothing-clause-formed : goal.sequences::form_next-returns-in-Nothing-clause-formed
+sequences::form_next-returns-in-Nothing-clause-formed g t c =
     let a = c.args in
     let r = a.evaluation.now in
     record {
@@ -365,8 +365,8 @@ form_next-returns-in-Nothing-clause-formed g t c =
       exhausted = λ U stands consistent. tt;
     }
 
-pub form_next-returns-in-Update-clause-formed : goal.form_next-returns-in-Update-clause-formed
-form_next-returns-in-Update-clause-formed g t c =
+pub sequences::form_next-returns-in-Update-clause-formed : goal.sequences::form_next-returns-in-Update-clause-formed
+sequences::form_next-returns-in-Update-clause-formed g t c =
     let a = c.args in
     let r = a.evaluation.now in
     let shape = evaluation_shape r in
@@ -383,8 +383,8 @@ form_next-returns-in-Update-clause-formed g t c =
       exhausted = λ U stands consistent. stopped_for_memory (rule_upon r U a.frame.now (at a.forming.now.path.items a.number) (rule_of a.rule.now)) _ c.merge_update.result c.merge_update.ensures.keeps.stopped;
     }
 
-pub merge_numbered-returns-clause-formed : goal.merge_numbered-returns-clause-formed
-merge_numbered-returns-clause-formed g t c =
+pub sequences::merge_numbered-returns-clause-formed : goal.sequences::merge_numbered-returns-clause-formed
+sequences::merge_numbered-returns-clause-formed g t c =
     let a = c.args in
     let r = a.evaluation.now in
     let shape = evaluation_shape r in
@@ -399,78 +399,78 @@ merge_numbered-returns-clause-formed g t c =
       exhausted = λ U stands consistent. tt;
     }
 
-pub merge_rule-returns-in-Seq-clause-formed : goal.merge_rule-returns-in-Seq-clause-formed
-merge_rule-returns-in-Seq-clause-formed g t c =
+pub sequences::merge_rule-returns-in-Seq-clause-formed : goal.sequences::merge_rule-returns-in-Seq-clause-formed
+sequences::merge_rule-returns-in-Seq-clause-formed g t c =
     let a = c.args in
     let r = a.evaluation.now in
     let shape = evaluation_shape r in
     upon_same shape _ _ _ _ _ _ c.merge_in_order.result
     (λ U stands consistent.
-        seq_yields shape r.turns (evaluation_choices r) (readings_of shape a.frame.now) (frame_locations shape a.frame.now) (fire (evaluation_state r) U) a.forming.now.path.items a.rule.now c.in-Seq.parts c.in-Seq.is c.as_slice.result.now c.as_slice.ensures.value)
+    seq_yields shape r.turns (evaluation_choices r) (readings_of shape a.frame.now) (frame_locations shape a.frame.now) (fire (evaluation_state r) U) a.forming.now.path.items a.rule.now c.in-Seq.parts c.in-Seq.is c.as_slice.result.now c.as_slice.ensures.value)
     c.merge_in_order.ensures.formed
 
-pub merge_rule-returns-in-If-clause-formed : goal.merge_rule-returns-in-If-clause-formed
-merge_rule-returns-in-If-clause-formed g t c =
+pub sequences::merge_rule-returns-in-If-clause-formed : goal.sequences::merge_rule-returns-in-If-clause-formed
+sequences::merge_rule-returns-in-If-clause-formed g t c =
     let a = c.args in
     let r = a.evaluation.now in
     let shape = evaluation_shape r in
     upon_same shape _ _ _ _ _ _ c.merge_if.result
     (λ U stands consistent.
-        if_is shape r.turns (evaluation_choices r) (readings_of shape a.frame.now) (frame_locations shape a.frame.now) (fire (evaluation_state r) U) a.forming.now.path.items a.rule.now c.in-If.test c.in-If.yes c.in-If.no c.in-If.is _ c.deref.result.now c.deref-in-If.result.now refl c.deref.ensures c.deref-in-If.ensures)
+    if_is shape r.turns (evaluation_choices r) (readings_of shape a.frame.now) (frame_locations shape a.frame.now) (fire (evaluation_state r) U) a.forming.now.path.items a.rule.now c.in-If.test c.in-If.yes c.in-If.no c.in-If.is _ c.deref.result.now c.deref-in-If.result.now refl c.deref.ensures c.deref-in-If.ensures)
     c.merge_if.ensures.formed
 
-pub merge_rule-returns-in-Iterate-clause-formed : goal.merge_rule-returns-in-Iterate-clause-formed
-merge_rule-returns-in-Iterate-clause-formed g t c =
+pub sequences::merge_rule-returns-in-Iterate-clause-formed : goal.sequences::merge_rule-returns-in-Iterate-clause-formed
+sequences::merge_rule-returns-in-Iterate-clause-formed g t c =
     let a = c.args in
     let r = a.evaluation.now in
     let shape = evaluation_shape r in
     upon_same shape _ _ _ _ _ _ c.merge_turns.result
     (λ U stands consistent.
-        iterate_yields shape r.turns (evaluation_choices r) (readings_of shape a.frame.now) (frame_locations shape a.frame.now) (fire (evaluation_state r) U) a.forming.now.path.items a.rule.now c.in-Iterate.body c.in-Iterate.is c.deref-in-Iterate.result.now c.deref-in-Iterate.ensures)
+    iterate_yields shape r.turns (evaluation_choices r) (readings_of shape a.frame.now) (frame_locations shape a.frame.now) (fire (evaluation_state r) U) a.forming.now.path.items a.rule.now c.in-Iterate.body c.in-Iterate.is c.deref-in-Iterate.result.now c.deref-in-Iterate.ensures)
     c.merge_turns.ensures.formed
 
-pub merge_rule-returns-in-Call-clause-formed : goal.merge_rule-returns-in-Call-clause-formed
-merge_rule-returns-in-Call-clause-formed g t c =
+pub sequences::merge_rule-returns-in-Call-clause-formed : goal.sequences::merge_rule-returns-in-Call-clause-formed
+sequences::merge_rule-returns-in-Call-clause-formed g t c =
     let a = c.args in
     let r = a.evaluation.now in
     let shape = evaluation_shape r in
     upon_same shape _ _ _ _ _ _ c.merge_call.result
     (λ U stands consistent.
-        call_is shape r.turns (evaluation_choices r) (readings_of shape a.frame.now) (frame_locations shape a.frame.now) (fire (evaluation_state r) U) a.forming.now.path.items a.rule.now c.in-Call.body c.in-Call.answer c.in-Call.arguments c.in-Call.is c.deref-in-Call.result.now _ c.as_slice-in-Call.result.now c.deref-in-Call.ensures refl c.as_slice-in-Call.ensures.value)
+    call_is shape r.turns (evaluation_choices r) (readings_of shape a.frame.now) (frame_locations shape a.frame.now) (fire (evaluation_state r) U) a.forming.now.path.items a.rule.now c.in-Call.body c.in-Call.answer c.in-Call.arguments c.in-Call.is c.deref-in-Call.result.now _ c.as_slice-in-Call.result.now c.deref-in-Call.ensures refl c.as_slice-in-Call.ensures.value)
     c.merge_call.ensures.formed
 
-pub merge_if-returns-then-holds_upon-clause-formed : goal.merge_if-returns-then-holds_upon-clause-formed
-merge_if-returns-then-holds_upon-clause-formed g t c =
+pub sequences::merge_if-returns-then-holds_upon-clause-formed : goal.sequences::merge_if-returns-then-holds_upon-clause-formed
+sequences::merge_if-returns-then-holds_upon-clause-formed g t c =
     let a = c.args in
     let r = a.evaluation.now in
     let shape = evaluation_shape r in
     upon_same shape _ _ _ _ _ _ c.form_next.result
     (λ U stands consistent.
-        if_yes shape r.turns (evaluation_choices r) (readings_of shape a.frame.now) (frame_locations shape a.frame.now) (fire (evaluation_state r) U) a.forming.now.path.items a.test.now a.yes.now a.no.now (sym (c.holds_upon.ensures U stands consistent) ∙ c.if-holds_upon.true))
+    if_yes shape r.turns (evaluation_choices r) (readings_of shape a.frame.now) (frame_locations shape a.frame.now) (fire (evaluation_state r) U) a.forming.now.path.items a.test.now a.yes.now a.no.now (sym (c.holds_upon.ensures U stands consistent) ∙ c.if-holds_upon.true))
     c.form_next.ensures.formed
 
-pub merge_if-returns-clause-formed : goal.merge_if-returns-clause-formed
-merge_if-returns-clause-formed g t c =
+pub sequences::merge_if-returns-clause-formed : goal.sequences::merge_if-returns-clause-formed
+sequences::merge_if-returns-clause-formed g t c =
     let a = c.args in
     let r = a.evaluation.now in
     let shape = evaluation_shape r in
     upon_same shape _ _ _ _ _ _ c.form_next-2.result
     (λ U stands consistent.
-        if_no shape r.turns (evaluation_choices r) (readings_of shape a.frame.now) (frame_locations shape a.frame.now) (fire (evaluation_state r) U) a.forming.now.path.items a.test.now a.yes.now a.no.now (sym (c.holds_upon.ensures U stands consistent) ∙ c.if-holds_upon.false))
+    if_no shape r.turns (evaluation_choices r) (readings_of shape a.frame.now) (frame_locations shape a.frame.now) (fire (evaluation_state r) U) a.forming.now.path.items a.test.now a.yes.now a.no.now (sym (c.holds_upon.ensures U stands consistent) ∙ c.if-holds_upon.false))
     c.form_next-2.ensures.formed
 
-pub merge_call-returns-clause-formed : goal.merge_call-returns-clause-formed
-merge_call-returns-clause-formed g t c =
+pub sequences::merge_call-returns-clause-formed : goal.sequences::merge_call-returns-clause-formed
+sequences::merge_call-returns-clause-formed g t c =
     let a = c.args in
     let r = a.evaluation.now in
     let shape = evaluation_shape r in
     upon_same shape _ _ _ _ _ _ c.form_next.result
     (λ U stands consistent.
-        call_with shape r.turns (evaluation_choices r) (readings_of shape a.frame.now) (frame_locations shape a.frame.now) (fire (evaluation_state r) U) a.forming.now.path.items a.body.now a.answer.now a.arguments.now c.in_ok-answer.answer (c.in_ok-answer.ensures.location U stands consistent))
+    call_with shape r.turns (evaluation_choices r) (readings_of shape a.frame.now) (frame_locations shape a.frame.now) (fire (evaluation_state r) U) a.forming.now.path.items a.body.now a.answer.now a.arguments.now c.in_ok-answer.answer (c.in_ok-answer.ensures.location U stands consistent))
     c.form_next.ensures.formed
 
-pub form_upon-returns-clause-formed : goal.form_upon-returns-clause-formed
-form_upon-returns-clause-formed g t c =
+pub sequences::form_upon-returns-clause-formed : goal.sequences::form_upon-returns-clause-formed
+sequences::form_upon-returns-clause-formed g t c =
     let a = c.args in
     let r = a.evaluation.now in
     let shape = evaluation_shape r in
@@ -495,8 +495,8 @@ form_upon-returns-clause-formed g t c =
 
 -- ---- turns
 
-pub merge_turns-loop-turn-init : goal.merge_turns-loop-turn-init
-merge_turns-loop-turn-init g t c =
+pub sequences::merge_turns-loop-turn-init : goal.sequences::merge_turns-loop-turn-init
+sequences::merge_turns-loop-turn-init g t c =
     let a = c.args in
     let r = a.evaluation.now in
     let shape = evaluation_shape r in
@@ -512,8 +512,8 @@ merge_turns-loop-turn-init g t c =
           (omega (arith, a.forming.now.in_range)) stands;
     }
 
-pub merge_turns-loop-turn-preserved : goal.merge_turns-loop-turn-preserved
-merge_turns-loop-turn-preserved g t c =
+pub sequences::merge_turns-loop-turn-preserved : goal.sequences::merge_turns-loop-turn-preserved
+sequences::merge_turns-loop-turn-preserved g t c =
     let a = c.args in
     let r = a.evaluation.now in
     let shape = evaluation_shape r in
@@ -534,8 +534,8 @@ merge_turns-loop-turn-preserved g t c =
           (c.joined-whole.ensures under.set on.set under.consistent under.is on.is);
     }
 
-pub merge_turns-returns-then-ends_turns-clause-formed : goal.merge_turns-returns-then-ends_turns-clause-formed
-merge_turns-returns-then-ends_turns-clause-formed g t c =
+pub sequences::merge_turns-returns-then-ends_turns-clause-formed : goal.sequences::merge_turns-returns-then-ends_turns-clause-formed
+sequences::merge_turns-returns-then-ends_turns-clause-formed g t c =
     let a = c.args in
     let r = a.evaluation.now in
     let shape = evaluation_shape r in
@@ -555,8 +555,8 @@ merge_turns-returns-then-ends_turns-clause-formed g t c =
       exhausted = λ U stands consistent. tt;
     }
 
-pub merge_turns-returns-in_err-part-clause-formed : goal.merge_turns-returns-in_err-part-clause-formed
-merge_turns-returns-in_err-part-clause-formed g t c =
+pub sequences::merge_turns-returns-in_err-part-clause-formed : goal.sequences::merge_turns-returns-in_err-part-clause-formed
+sequences::merge_turns-returns-in_err-part-clause-formed g t c =
     let a = c.args in
     let r = a.evaluation.now in
     let shape = evaluation_shape r in
@@ -574,8 +574,8 @@ merge_turns-returns-in_err-part-clause-formed g t c =
           (c.form_next.ensures.formed.exhausted (merge U under.set) under.stands (merge_laws.consistent U under.set consistent under.consistent));
     }
 
-pub merge_turns-returns-clause-formed : goal.merge_turns-returns-clause-formed
-merge_turns-returns-clause-formed g t c =
+pub sequences::merge_turns-returns-clause-formed : goal.sequences::merge_turns-returns-clause-formed
+sequences::merge_turns-returns-clause-formed g t c =
     let a = c.args in
     let r = a.evaluation.now in
     let shape = evaluation_shape r in
@@ -589,8 +589,8 @@ merge_turns-returns-clause-formed g t c =
           turns_stop shape r.turns (evaluation_choices r) (readings_of shape a.frame.now) (frame_locations shape a.frame.now) a.forming.now.path.items (evaluation_state r) U _ _ _ _ _ r.turns (rule_of a.body.now) l.turn (l.invariant.underway U stands consistent) c.loop-turn-test.false ∙ ap Exhausted (sym l.invariant.same_path);
     }
 
-pub form-returns-in-Iterate-clause-formed : goal.form-returns-in-Iterate-clause-formed
-form-returns-in-Iterate-clause-formed g t c =
+pub form::form-returns-in-Iterate-clause-formed : goal.form::form-returns-in-Iterate-clause-formed
+form::form-returns-in-Iterate-clause-formed g t c =
     let a = c.args in
     let r = a.evaluation.now in
     let shape = evaluation_shape r in
@@ -600,8 +600,8 @@ form-returns-in-Iterate-clause-formed g t c =
 
 -- ---- values of a universe
 
-pub form_span-loop-i-init : goal.form_span-loop-i-init
-form_span-loop-i-init g t c =
+pub form::form_span-loop-i-init : goal.form::form_span-loop-i-init
+form::form_span-loop-i-init g t c =
     let a = c.args in
     let r = a.evaluation.now in
     let shape = evaluation_shape r in
@@ -615,8 +615,8 @@ form_span-loop-i-init g t c =
           (codes_between c.first_code-low.result c.universe-universe.result.now us c.first_code-low.ensures (universe_here shape.universes a.over c.universe-universe.result.now c.universe-universe.ensures) a.from a.to);
     }
 
-pub form_span-loop-k-init : goal.form_span-loop-k-init
-form_span-loop-k-init g t c =
+pub form::form_span-loop-k-init : goal.form::form_span-loop-k-init
+form::form_span-loop-k-init g t c =
     let a = c.args in
     let r = a.evaluation.now in
     let shape = evaluation_shape r in
@@ -634,8 +634,8 @@ form_span-loop-k-init g t c =
           l.invariant.left;
     }
 
-pub form_span-overflow_sub-number : goal.form_span-overflow_sub-number
-form_span-overflow_sub-number g t c =
+pub form::form_span-overflow_sub-number : goal.form::form_span-overflow_sub-number
+form::form_span-overflow_sub-number g t c =
     let a = c.args in
     let r = a.evaluation.now in
     let shape = evaluation_shape r in
@@ -649,8 +649,8 @@ form_span-overflow_sub-number g t c =
     let next = next_of shape r.turns (evaluation_choices r) (readings_of shape a.frame.now) (frame_locations shape a.frame.now) (evaluation_state r) a.forming.now.path.items passes (rule_of a.body.now) c.first_code-low.result (span_at r a.frame.now a.forming.now.path.items a.over (option_map code_of a.test.now) (rule_of a.body.now) a.from a.to) a.forming.now l.forming v others under in
     omega (arith, next.code, ap values.code_of c.unbranded_code.ensures, c.code.ensures.code)
 
-pub form_span-loop-k-preserved : goal.form_span-loop-k-preserved
-form_span-loop-k-preserved g t c =
+pub form::form_span-loop-k-preserved : goal.form::form_span-loop-k-preserved
+form::form_span-loop-k-preserved g t c =
     let a = c.args in
     let r = a.evaluation.now in
     let shape = evaluation_shape r in
@@ -680,8 +680,8 @@ form_span-loop-k-preserved g t c =
       };
     }
 
-pub form_span-loop-i-preserved : goal.form_span-loop-i-preserved
-form_span-loop-i-preserved g t c =
+pub form::form_span-loop-i-preserved : goal.form::form_span-loop-i-preserved
+form::form_span-loop-i-preserved g t c =
     let a = c.args in
     let r = a.evaluation.now in
     let shape = evaluation_shape r in
@@ -695,8 +695,8 @@ form_span-loop-i-preserved g t c =
       left = left_same shape r.turns (evaluation_choices r) (readings_of shape a.frame.now) (frame_locations shape a.frame.now) (evaluation_state r) a.forming.now.path.items passes (rule_of a.body.now) c.first_code-low.result (span_at r a.frame.now a.forming.now.path.items a.over (option_map code_of a.test.now) (rule_of a.body.now) a.from a.to) a.forming.now l.forming _ _ (none_more l.k c.keep_passing-kept.result c.keep_passing-kept.new.elements _ c.loop-k-test.false) l.invariant.left;
     }
 
-pub form_span-returns-clause-formed : goal.form_span-returns-clause-formed
-form_span-returns-clause-formed g t c =
+pub form::form_span-returns-clause-formed : goal.form::form_span-returns-clause-formed
+form::form_span-returns-clause-formed g t c =
     let a = c.args in
     let r = a.evaluation.now in
     let shape = evaluation_shape r in
@@ -706,8 +706,8 @@ form_span-returns-clause-formed g t c =
     let under = left_same shape r.turns (evaluation_choices r) (readings_of shape a.frame.now) (frame_locations shape a.frame.now) (evaluation_state r) a.forming.now.path.items passes (rule_of a.body.now) c.first_code-low.result (span_at r a.frame.now a.forming.now.path.items a.over (option_map code_of a.test.now) (rule_of a.body.now) a.from a.to) a.forming.now l.forming _ [] (none_between passes l.i a.to us c.loop-i-test.false) l.invariant.left in
     under.follows _ _ (follows_nothing shape tt _ _ (sym (left_ends shape r.turns (evaluation_choices r) (readings_of shape a.frame.now) (frame_locations shape a.frame.now) (evaluation_state r) a.forming.now.path.items passes (rule_of a.body.now) c.first_code-low.result (span_at r a.frame.now a.forming.now.path.items a.over (option_map code_of a.test.now) (rule_of a.body.now) a.from a.to) a.forming.now l.forming under)))
 
-pub form_span-returns-in_err-form_part-clause-formed : goal.form_span-returns-in_err-form_part-clause-formed
-form_span-returns-in_err-form_part-clause-formed g t c =
+pub form::form_span-returns-in_err-form_part-clause-formed : goal.form::form_span-returns-in_err-form_part-clause-formed
+form::form_span-returns-in_err-form_part-clause-formed g t c =
     let a = c.args in
     let r = a.evaluation.now in
     let shape = evaluation_shape r in
@@ -725,8 +725,8 @@ form_span-returns-in_err-form_part-clause-formed g t c =
     (λ last ends. next.stops last (sym (λ i. (element_does r a.frame.now (l.invariant.same_path i) (number i) v a.body.now).result) ∙ ends))
     c.form_part.ensures.formed)
 
-pub form-returns-in-Left-2-clause-formed : goal.form-returns-in-Left-2-clause-formed
-form-returns-in-Left-2-clause-formed g t c =
+pub form::form-returns-in-Left-2-clause-formed : goal.form::form-returns-in-Left-2-clause-formed
+form::form-returns-in-Left-2-clause-formed g t c =
     let a = c.args in
     let r = a.evaluation.now in
     let shape = evaluation_shape r in
@@ -738,8 +738,8 @@ form-returns-in-Left-2-clause-formed g t c =
     (size_here shape.universes c.in-Forall.over c.universe.result.now c.size-size.result c.universe.ensures c.size-size.ensures.size))
     c.form_span.ensures.formed)
 
-pub form-returns-in-Choose-clause-formed : goal.form-returns-in-Choose-clause-formed
-form-returns-in-Choose-clause-formed g t c =
+pub form::form-returns-in-Choose-clause-formed : goal.form::form-returns-in-Choose-clause-formed
+form::form-returns-in-Choose-clause-formed g t c =
     let a = c.args in
     let r = a.evaluation.now in
     let shape = evaluation_shape r in
@@ -747,8 +747,8 @@ form-returns-in-Choose-clause-formed g t c =
     (choose_is shape r.turns (evaluation_choices r) (readings_of shape a.frame.now) (frame_locations shape a.frame.now) (evaluation_state r) a.forming.now.path.items a.rule.now c.in-Choose.over c.in-Choose.test c.in-Choose.body c.in-Choose.none c.in-Choose.is _ c.deref-in-Choose.result.now c.deref-in-Choose-2.result.now refl c.deref-in-Choose.ensures c.deref-in-Choose-2.ensures)
     c.form_choose.ensures.formed
 
-pub form_choose-returns-clause-formed : goal.form_choose-returns-clause-formed
-form_choose-returns-clause-formed g t c =
+pub form::form_choose-returns-clause-formed : goal.form::form_choose-returns-clause-formed
+form::form_choose-returns-clause-formed g t c =
     let a = c.args in
     let r = a.evaluation.now in
     let shape = evaluation_shape r in
@@ -757,8 +757,8 @@ form_choose-returns-clause-formed g t c =
     (ap Some c.unbranded_code.ensures ∙ sym c.in-Some.is ∙ c.chosen.ensures ∙ ap (λ q. taken (evaluation_choices r q) (passing_in r.view.now a.frame.now a.over a.test.now)) c.as_slice.ensures.value))
     c.form_part-2.ensures.formed
 
-pub form_choose-returns-in_default-clause-formed : goal.form_choose-returns-in_default-clause-formed
-form_choose-returns-in_default-clause-formed g t c =
+pub form::form_choose-returns-in_default-clause-formed : goal.form::form_choose-returns-in_default-clause-formed
+form::form_choose-returns-in_default-clause-formed g t c =
     let a = c.args in
     let r = a.evaluation.now in
     let shape = evaluation_shape r in
@@ -769,8 +769,8 @@ form_choose-returns-in_default-clause-formed g t c =
 
 -- ---- calls
 
-pub form-returns-in-Call-clause-formed : goal.form-returns-in-Call-clause-formed
-form-returns-in-Call-clause-formed g t c =
+pub form::form-returns-in-Call-clause-formed : goal.form::form-returns-in-Call-clause-formed
+form::form-returns-in-Call-clause-formed g t c =
     let a = c.args in
     let r = a.evaluation.now in
     let shape = evaluation_shape r in
@@ -778,8 +778,8 @@ form-returns-in-Call-clause-formed g t c =
     (call_is shape r.turns (evaluation_choices r) (readings_of shape a.frame.now) (frame_locations shape a.frame.now) (evaluation_state r) a.forming.now.path.items a.rule.now c.in-Call.body c.in-Call.answer c.in-Call.arguments c.in-Call.is c.deref-in-Call.result.now _ c.as_slice-in-Call.result.now c.deref-in-Call.ensures refl c.as_slice-in-Call.ensures.value)
     c.form_call.ensures.formed
 
-pub form_call-returns-clause-formed : goal.form_call-returns-clause-formed
-form_call-returns-clause-formed g t c =
+pub form::form_call-returns-clause-formed : goal.form::form_call-returns-clause-formed
+form::form_call-returns-clause-formed g t c =
     let a = c.args in
     let r = a.evaluation.now in
     let shape = evaluation_shape r in

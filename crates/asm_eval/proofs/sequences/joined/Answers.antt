@@ -1,5 +1,5 @@
 use Rattle.asm_eval.proofs.SequencesUpon.{joined_empty, joined_consistent, joined_inconsistent}
-use Rattle.asm_eval.proofs.form.joined.Goals as goal
+use Rattle.asm_eval.proofs.sequences.joined.Goals as goal
 
 pub returns-in-Empty : goal.returns-in-Empty
 returns-in-Empty c U V consistent is later = joined_empty U V c.args.first c.args.then consistent is later c.in-Empty.is
