@@ -2,40 +2,29 @@
 -- The lemmas that are public are the clauses of sequence_laws, part_laws and stopping_laws.
 use Rattle.std.proofs.Common.{IsTrue, ◌≡◌, ◌≢◌, ℕ, ◌+◌, ◌≤◌, min, Bool, true, false, not, cond, ◌||◌, ◌⊎◌, inl, inr, refl, sym, ap, subst, ◌∙◌, arith}
 use Rattle.std.specs.Bool.{Decides}
-use Rattle.std.specs.Prelude.{Result as Returned, Ok, Err, OnOk, IfErr, IsErrAnd}
+use Rattle.std.specs.Prelude.{Result as Returned, Ok, Err, IfErr, IsErrAnd}
 use Rattle.std.proofs.lemmas.Bool.{false_from_ne_true, false≢true}
-use Rattle.std.proofs.lemmas.Result.{on_ok_weaker, IfErr-at_err}
+use Rattle.std.proofs.lemmas.Result.{IfErr-at_err}
 use Rattle.std.proofs.Math.Bool.{or-true}
-use Rattle.asm_state.specs.Location.{Location, Proper, Stray, State}
+use Rattle.asm_state.specs.Location.{Location, Proper, Stray}
 use Rattle.asm_state.specs.Signature.{Shape}
-use Rattle.asm_state.specs.Updates.{UpdateSet, Has, IsConsistent, is_consistent, is_none, is_proper, none, one, merge, fire, Fault, Clash, Outside, IsFirstFault}
+use Rattle.asm_state.specs.Updates.{UpdateSet, Has, IsConsistent, is_consistent, is_none, is_proper, none, one, merge, Fault, Clash, Outside, IsFirstFault}
 use Rattle.asm_state.specs.declared.value.Value.{Value}
-use Rattle.asm_state.proofs.UpdateLemmas.UnionsAndMerges.{union_laws, merge_laws}
+use Rattle.asm_state.proofs.UpdateLemmas.UnionsAndMerges.{union_laws}
 use Rattle.asm_state.proofs.UpdateLemmas.Faults.{fault_laws}
 use Rattle.asm_state.proofs.UpdateLemmas.Members.{member_laws}
 use Rattle.asm_state.proofs.UpdateLemmas.Updates.{test_laws}
-use Rattle.asm_state.proofs.UpdateLemmas.Summaries.{fire_laws}
 use Rattle.asm_updates.specs.code.SummaryRanges.{SummaryRanges}
-use Rattle.asm_updates.specs.code.Stands.{Stands, Adds}
+use Rattle.asm_updates.specs.code.Stands.{Stands}
 use Rattle.asm_meaning.specs.Does.{Outcome, nothing, following, part_and, turn_and}
 use Rattle.asm_meaning.specs.code.FormedOutcomes.{Forms, IsMergedPart, IsStoppedAt, greatest_count}
 use Rattle.asm_meaning.specs.code.PartSets.{IsPartSet, ends_parts, ends_turns}
-use Rattle.asm_meaning.specs.code.SequenceUnderway.{IsUnderway}
-use Rattle.asm_meaning.specs.Yields.{Path, Result, Gives, Exhausted, after}
+use Rattle.asm_meaning.specs.Yields.{Path, Gives, Exhausted, after}
 use Rattle.asm_meaning.specs.declared.part_set.PartSet.{PartSet}
 use Rattle.asm_meaning.specs.declared.part_set.PartSet.TheVariants.{Empty, Consistent, Inconsistent}
 use Rattle.asm_meaning.specs.declared.stopped.Stopped.{Stopped}
 use Rattle.asm_meaning.specs.declared.stopped.Stopped.TheVariants as stopped
 
-after_none : (r : Result) → after none r ≡ r
-after_none (Gives V) = ap Gives (merge_laws.first_unit V)
-after_none (Exhausted q) = refl
-
-after_both : (U V : UpdateSet) (r : Result) → after U (after V r) ≡ after (merge U V) r
-after_both U V (Gives W) = ap Gives (sym (merge_laws.group U V W))
-after_both U V (Exhausted q) = refl
-
--- nothing is fired
 
 pub none_consistent : IsConsistent none
 none_consistent = record { one_value = λ l v w h k. absurd (member_laws.of_none l v h); no_stray = λ f v. member_laws.of_none (Stray f) v }
@@ -95,15 +84,6 @@ false_by b test not = false_from_ne_true b (λ is. not (test.0 is))
 
 -- ---- outcomes
 
-same_outcome : (o q : Outcome) → o.result ≡ q.result → o.instances ≡ q.instances → o ≡ q
-same_outcome o q e f = λ i. record { result = e i; instances = f i }
-
-following_none : (o : Outcome) → following none 0 o ≡ o
-following_none o = same_outcome (following none 0 o) o (after_none o.result) (omega arith)
-
-following_both : (U V : UpdateSet) (n k : ℕ) (o : Outcome) → following U n (following V k o) ≡ following (merge U V) (n + k) o
-following_both U V n k o = same_outcome (following U n (following V k o)) (following (merge U V) (n + k) o) (after_both U V o.result) (omega arith)
-
 abbrev of_set : UpdateSet → ℕ → Outcome
 of_set U n = record { result = Gives U; instances = n }
 
@@ -154,20 +134,9 @@ pub stopping_laws-memory : {T : Type 0} (o : Outcome) (p : Path) (returned : Ret
 stopping_laws-memory o p (Ok x) is = tt
 stopping_laws-memory o p (Err stop) is = subst (IsStoppedAt o p) (sym is) tt
 
--- ---- from part to part
+-- ---- a part that is joined
 
 module _ (shape : Shape) where
-  pub sequence_laws-begins : (A : State) (total : Outcome) (left : State → Outcome) (so_far : SummaryRanges) (n : ℕ) → total ≡ left A → n ≤ greatest_count → Stands shape so_far none
-      → IsUnderway shape A total left so_far n n
-  sequence_laws-begins A total left so_far n is small stands = record {
-    set = none;
-    instances = 0;
-    whole = is ∙ sym (following_none (left (fire A none)) ∙ ap left (fire_laws.of_none A));
-    stands = stands;
-    consistent = none_consistent;
-    counts = omega arith;
-  }
-
   -- a part that is formed from nothing, upon the sets so far
   pub sequence_laws-goes_upon : (o : Outcome) (U : UpdateSet) (cleared so_far joined made : SummaryRanges) (part : PartSet) (before after : ℕ)
       → Stands shape cleared none → Stands shape so_far U → ((V W : UpdateSet) → Stands shape so_far V → Stands shape made W → Stands shape joined (merge V W))
@@ -189,58 +158,3 @@ module _ (shape : Shape) where
     where
       still : (k g : ℕ) → k ≤ g → k ≡ min (k + 0) g
       still k g h = omega arith
-
-  module _ (A : State) (total : Outcome) (left : State → Outcome) (so_far : SummaryRanges) (before now : ℕ) (under : IsUnderway shape A total left so_far before now) where
-    pub sequence_laws-goes_on : (o : Outcome) (left_then : State → Outcome) (joined : SummaryRanges) (part : PartSet) (after : ℕ) (on : IsMergedPart shape o under.set joined part now after)
-        → IsConsistent on.set → left (fire A under.set) ≡ following on.set o.instances (left_then (fire (fire A under.set) on.set))
-        → IsUnderway shape A total left_then joined before after
-    sequence_laws-goes_on o left_then joined part after on consistent is = record {
-      set = merge under.set on.set;
-      instances = under.instances + o.instances;
-      whole = under.whole ∙ ap (following under.set under.instances) is
-          ∙ following_both under.set on.set under.instances o.instances (left_then (fire (fire A under.set) on.set))
-          ∙ ap (λ B. following (merge under.set on.set) (under.instances + o.instances) (left_then B)) (sym (merge_laws.firing A under.set on.set));
-      stands = on.merged;
-      consistent = merge_laws.consistent under.set on.set under.consistent consistent;
-      counts = cut_off before under.instances o.instances greatest_count now after under.counts on.counts;
-    }
-      where
-        cut_off : (n a b g m k : ℕ) → m ≡ min (n + a) g → k ≡ min (m + b) g → k ≡ min (n + (a + b)) g
-        cut_off n a b g m k e f = omega arith
-
-    -- what is left gives a set, and the whole is formed by adding the set so far with it
-    ends_by : (old new : SummaryRanges) (after : ℕ) (V : UpdateSet) (n : ℕ) → left (fire A under.set) ≡ of_set V n → Adds shape (merge under.set V) old new
-        → after ≡ min (now + n) greatest_count → Forms shape total old new before after
-    ends_by old new after V n is adds counts = record {
-      set = merge under.set V;
-      gives = ap (λ (o : Outcome). o.result) (under.whole ∙ ap (following under.set under.instances) is);
-      adds = adds;
-      counts = counts ∙ ap (λ m. min (m + n) greatest_count) under.counts ∙ cut_off before under.instances n greatest_count
-          ∙ ap (λ (o : Outcome). min (before + o.instances) greatest_count) (sym (under.whole ∙ ap (following under.set under.instances) is));
-    }
-      where
-        cut_off : (n a b g : ℕ) → min (min (n + a) g + b) g ≡ min (n + (a + b)) g
-        cut_off n a b g = omega arith
-
-    module _ {T : Type 0} (was old new : SummaryRanges) (n : ℕ) (returned : Returned T Stopped) (same : was ≡ old) where
-      pub sequence_laws-ends_with : (o : Outcome) (joined : SummaryRanges) (part : PartSet) (after : ℕ) (on : IsMergedPart shape o under.set joined part now after) → n ≡ after
-          → left (fire A under.set) ≡ of_set on.set o.instances → ((V : UpdateSet) → Stands shape joined V → OnOk returned (Adds shape V was new))
-          → OnOk returned (Forms shape total old new before n)
-      sequence_laws-ends_with o joined part after on kept is put =
-          on_ok_weaker returned
-          (λ adds. ends_by old new n on.set o.instances is (subst (λ s. Adds shape (merge under.set on.set) s new) same adds) (kept ∙ on.counts))
-          (put (merge under.set on.set) on.merged)
-
-      pub sequence_laws-ends : n ≡ now → left (fire A under.set) ≡ nothing → ((V : UpdateSet) → Stands shape so_far V → OnOk returned (Adds shape V was new))
-          → OnOk returned (Forms shape total old new before n)
-      sequence_laws-ends kept is put =
-          on_ok_weaker returned
-          (λ adds. ends_by old new n none 0 is (subst (λ V. Adds shape V old new) (sym (merge_laws.last_unit under.set)) (subst (λ s. Adds shape under.set s new) same adds))
-          (still n now before under.instances greatest_count kept under.counts))
-          (put under.set under.stands)
-        where
-          still : (k m n a g : ℕ) → k ≡ m → m ≡ min (n + a) g → k ≡ min (m + 0) g
-          still k m n a g is e = omega arith
-
-    pub sequence_laws-ends_at : (q : Path) → (left (fire A under.set)).result ≡ Exhausted q → total.result ≡ Exhausted q
-    sequence_laws-ends_at q is = ap (λ (o : Outcome). o.result) under.whole ∙ ap (after under.set) is

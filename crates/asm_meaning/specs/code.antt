@@ -6,7 +6,6 @@ pub mod MeantTrees
 pub mod NestedPaths
 pub mod OutcomesBeside
 pub mod PartSets
-pub mod SequenceUnderway
 pub mod Setting
 pub mod ShownStates
 pub mod TermValues

@@ -3,7 +3,7 @@ ghost use Rattle.std.specs.Prelude.{◌≡◌, ◌≢◌, ◌⊎◌, ◌<◌, �
 ghost use Rattle.std.proofs.Common.{Box, Vec, Global};
 ghost use Rattle.asm_state.specs.Location.{State};
 ghost use Rattle.asm_state.specs.Signature.{Shape, count_of, domain_of};
-ghost use Rattle.asm_state.specs.Updates.{UpdateSet, IsConsistent, IsFirstFault, none, merge, fire};
+ghost use Rattle.asm_state.specs.Updates.{UpdateSet, IsConsistent, IsFirstFault, none, merge};
 ghost use Rattle.asm_state.specs.declared.function.Function.{Function};
 ghost use Rattle.asm_state.specs.declared.function.FunctionKind.TheVariants as kind;
 ghost use Rattle.asm_state.specs.declared.operation.Op.{Op};
@@ -11,7 +11,7 @@ ghost use Rattle.asm_state.specs.declared.value.Value.{Value};
 ghost use Rattle.asm_state.specs.declared.value.Value.TheVariants.{Undef};
 ghost use Rattle.asm_updates.specs.code.SummaryRanges.{SummaryRanges};
 ghost use Rattle.asm_updates.specs.code.Faults.{fault_of};
-ghost use Rattle.asm_updates.specs.code.Stands.{Stands, Adds};
+ghost use Rattle.asm_updates.specs.code.Stands.{Stands};
 ghost use Rattle.asm_updates.specs.declared.fault.Fault.{Fault as NumberedFault};
 ghost use Rattle.asm_syntax.specs.PlainTree.{literal_value, plain_links, plain_term, plain_terms, plain_rule};
 ghost use Rattle.asm_syntax.specs.SourceTree.{Spec};
@@ -57,7 +57,6 @@ ghost use Rattle.asm_meaning.specs.Taken.{taken, found_candidate};
 ghost use Rattle.asm_meaning.specs.Targets.{location_of};
 ghost use Rattle.asm_meaning.specs.TermCases.{ValuedByCases};
 ghost use Rattle.asm_meaning.specs.code.TreeWeights.{body_weight, in_body, link_of, named_weight, rules_in, term_weight};
-ghost use Rattle.asm_meaning.specs.code.SequenceUnderway.{IsUnderway};
 ghost use Rattle.asm_meaning.specs.Value.{applied, inner, nesting, universe, value, values};
 ghost use Rattle.asm_meaning.specs.code.TermValues.{declared_value, program};
 ghost use Rattle.asm_meaning.specs.code.Weights.{TermWeightsFall, CallWeightsFall, rule_weight};
@@ -298,31 +297,14 @@ pub fn part_laws()
     ensures ending_turn { (V : UpdateSet) (part : PartSet) → IsPartSet V part → ends_turns part ≡ true → (V ≡ none) ⊎ (¬ (IsConsistent V)) }
 {}
 
-/// A sequence on its way: at its beginning, a part that is formed upon the sets so far, or one
-/// whose set is known, after a part whose set is consistent, and at its end, when a set ends it,
-/// nothing is left, or what is left is exhausted.
-pub fn sequence_laws<T: Drop>()
-    ensures begins { (shape : Shape) (A : State) (total : Outcome) (left : State → Outcome) (so_far : SummaryRanges) (n : ℕ) → total ≡ left A → n ≤ greatest_count →
-        Stands shape so_far none → IsUnderway shape A total left so_far n n }
+/// A part of a sequence, joined to what is there: one that is formed alone, and one whose set is
+/// known.
+pub fn sequence_laws()
     ensures goes_upon { (shape : Shape) (o : Outcome) (U : UpdateSet) (cleared so_far joined made : SummaryRanges) (part : PartSet) (before after : ℕ) → Stands shape cleared none →
         Stands shape so_far U → ((V W : UpdateSet) → Stands shape so_far V → Stands shape made W → Stands shape joined (merge V W)) →
         ((V : UpdateSet) → Stands shape made V → IsPartSet V part) → Forms shape o cleared made before after → IsMergedPart shape o U joined part before after }
     ensures goes_by { (shape : Shape) (o : Outcome) (U V : UpdateSet) (joined : SummaryRanges) (part : PartSet) (n : ℕ) → o ≡ record { result = Gives V; instances = 0 } →
         n ≤ greatest_count → IsPartSet V part → Stands shape joined (merge U V) → IsMergedPart shape o U joined part n n }
-    ensures goes_on { (shape : Shape) (A : State) (total : Outcome) (left : State → Outcome) (so_far : SummaryRanges) (before now : ℕ) (under : IsUnderway shape A total left so_far before now)
-        (o : Outcome) (left_then : State → Outcome) (joined : SummaryRanges) (part : PartSet) (after : ℕ) (on : IsMergedPart shape o under.set joined part now after) → IsConsistent on.set →
-        left (fire A under.set) ≡ following on.set o.instances (left_then (fire (fire A under.set) on.set)) →
-        IsUnderway shape A total left_then joined before after }
-    ensures ends_with { (shape : Shape) (A : State) (total : Outcome) (left : State → Outcome) (so_far : SummaryRanges) (before now : ℕ) (under : IsUnderway shape A total left so_far before now)
-        (was old new : SummaryRanges) (n : ℕ) (returned : Returned T Stopped) (same : was ≡ old)
-        (o : Outcome) (joined : SummaryRanges) (part : PartSet) (after : ℕ) (on : IsMergedPart shape o under.set joined part now after) → n ≡ after →
-        left (fire A under.set) ≡ record { result = Gives on.set; instances = o.instances } →
-        ((V : UpdateSet) → Stands shape joined V → OnOk returned (Adds shape V was new)) → OnOk returned (Forms shape total old new before n) }
-    ensures ends { (shape : Shape) (A : State) (total : Outcome) (left : State → Outcome) (so_far : SummaryRanges) (before now : ℕ) (under : IsUnderway shape A total left so_far before now)
-        (was old new : SummaryRanges) (n : ℕ) (returned : Returned T Stopped) (same : was ≡ old) → n ≡ now → left (fire A under.set) ≡ nothing →
-        ((V : UpdateSet) → Stands shape so_far V → OnOk returned (Adds shape V was new)) → OnOk returned (Forms shape total old new before n) }
-    ensures ends_at { (shape : Shape) (A : State) (total : Outcome) (left : State → Outcome) (so_far : SummaryRanges) (before now : ℕ) (under : IsUnderway shape A total left so_far before now)
-        (q : Path) → (left (fire A under.set)).result ≡ Exhausted q → total.result ≡ Exhausted q }
 {}
 
 /// What a name's number stands for: elements and functions that are in range, derived functions and
