@@ -25,7 +25,6 @@ use Rattle.asm_meaning.specs.declared.part_set.PartSet.TheVariants.{Empty, Consi
 use Rattle.asm_meaning.specs.declared.stopped.Stopped.{Stopped}
 use Rattle.asm_meaning.specs.declared.stopped.Stopped.TheVariants as stopped
 
-
 pub none_consistent : IsConsistent none
 none_consistent = record { one_value = λ l v w h k. absurd (member_laws.of_none l v h); no_stray = λ f v. member_laws.of_none (Stray f) v }
 
