@@ -9,7 +9,7 @@ import tempfile
 
 from .edits import PARTS, read
 from .failure import Failure
-from .verdicts import Said
+from .verdicts import Said, folders_of, folders_of_cycle
 
 # How the names of the copies begin.
 ROOMS = "wrong-bodies-"
@@ -102,10 +102,9 @@ class Toolchain:
             self.run(name, room, kept, [*started, "--generated", f"{room}/goals"])
             found, top = set(), f"{room}/goals/Rattle-{name}-proofs"
             for function in functions:
-                place = function.path().replace("::", "/")
-                above, _, last = place.rpartition("/")
-                for folder in (place, f"{above}/+{last}", f"{above}/+{function.cycle}"):
-                    path = f"{top}/{folder}/Goals.antt"
+                own = function.path()
+                for folder in (*folders_of(own), *folders_of_cycle(own, function.cycle)):
+                    path = f"{top}/{folder.removeprefix('proofs/')}Goals.antt"
                     text = read(path, path) if os.path.isfile(path) else ""
                     found |= {f"{function.path()} {it}" for it in GOAL.findall(text)}
             return found

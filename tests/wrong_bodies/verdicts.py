@@ -144,14 +144,18 @@ def is_own(function, name, file, said):
     folders, goal = folders_of(name), REFUSED.match(said)
     if file.startswith(folders):
         return True
-    above = folders[0].removesuffix(f"{name.rpartition('::')[2]}/")
-    is_shared = function.cycle and file.startswith(f"{above}+{function.cycle}/")
+    is_shared = function.cycle and file.startswith(folders_of_cycle(name, function.cycle))
     return bool(is_shared and goal and is_of(function, name, goal[1]))
 
 
 def is_of(function, name, goal):
-    """Returns whether a goal is one of this function, and not of another of its recursion."""
-    return not function.shares_cycle or goal.startswith(f"{name.rpartition('::')[2]}-")
+    """Returns whether a goal is one of this function, and not of another of its recursion.
+
+    In a recursion across modules its name begins with the modules that differ.
+    """
+    parts = name.split("::")
+    named = tuple(f"{'::'.join(parts[at:])}-" for at in range(len(parts)))
+    return not function.shares_cycle or goal.startswith(named)
 
 
 def folders_of(name):
@@ -162,6 +166,17 @@ def folders_of(name):
     above, _, last = name.replace("::", "/").rpartition("/")
     above = f"proofs/{above}/" if above else "proofs/"
     return f"{above}{last}/", f"{above}+{last}/"
+
+
+def folders_of_cycle(name, cycle):
+    """Returns the folders in which the proof of a function's recursion may stand.
+
+    It is in the module that has all of the recursion.
+    """
+    folders = ["proofs"]
+    for module in name.split("::")[:-1]:
+        folders.append(f"{folders[-1]}/{module}")
+    return tuple(f"{folder}/+{cycle}/" for folder in folders)
 
 
 class Verdict:
