@@ -5,13 +5,14 @@
 //! an assignment or a `skip`, or an `if` between such, at most one update is found, and the set so
 //! far goes on with it (`single_update`, `merge_update`). A sequence in it goes on with the same set
 //! so far, also one in a branch or in a rule that is called (`merge_rule`): its updates are merged
-//! where they belong at once, and a read looks through one set however deep the sequences are. Any
+//! where they belong at once, and a read looks through one set however deep such sequences are. Any
 //! other part is formed in one summary, which is cleared for each, and then joined by the turbo
 //! merge; the first set that isn't empty is taken as it is (`merge_part`). So joining a turn costs
 //! what its own updates cost, however much was done before it, and a million turns take the memory
 //! of the locations that they update. Turns are a loop and take no stack.
 //!
-//! The functions that go on with a set promise `FollowsUpon`, for each set that it may stand for.
+//! The functions that go on with a set promise `FollowsUpon`, for each consistent set that it may
+//! stand for.
 //! The invariant of their loops: the whole is what the sequence's own set so far becomes with the
 //! rest after it, in the state in which both are fired (`proofs/SequencesUpon.antt`,
 //! `proofs/CodeSequences.antt`).

@@ -9,7 +9,8 @@
 --                             those of P at the location l, in the state A and at the path p, if the
 --                             positions stand for rs, and for the locations ls, if they stand for
 --                             any
-use Rattle.std.specs.Prelude.{ℕ, zero, suc, ◌%◌, ◌++◌, Bool, cond, not, ◌||◌, List, [], ◌∷◌, Option, Some, None, slice_index_or, length}
+--     StandingIsTold          if P yields a set, they are those that stand in its story
+use Rattle.std.specs.Prelude.{◌≡◌, ℕ, zero, suc, ◌%◌, ◌++◌, Bool, cond, not, ◌||◌, List, [], ◌∷◌, Option, Some, None, slice_index_or, length}
 use Rattle.asm_state.specs.declared.value.Value.{Value}
 use Rattle.asm_state.specs.Location.{Location, State}
 use Rattle.asm_state.specs.Signature.{Shape, is_location}
@@ -19,8 +20,9 @@ use Rattle.asm_meaning.specs.Value.{Reading, is_true}
 use Rattle.asm_meaning.specs.Yields.{Path, Result, Gives, Exhausted, at}
 use Rattle.asm_code.specs.code.Readings.{always, reading, universe_at}
 use Rattle.asm_code.specs.code.RuleMeaning.{Locations, meaning, passes, passing, target_location, named_readings, optional_target_location, result_readings, result_locations}
+use Rattle.asm_code.specs.code.RuleStories.{telling}
 use Rattle.asm_code.specs.code.RuleTree.{RuleCode, Skip, Assign, Par, Seq, If, Let, Forall, Choose, Iterate, Call, RuleCodes, no_rules, rule_then}
-use Rattle.asm_clash.specs.Standing.{Assigned, later}
+use Rattle.asm_clash.specs.Standing.{Assigned, later, stands}
 
 abbrev pub Standing : Type 0
 Standing = State → Path → List Assigned
@@ -93,3 +95,7 @@ module _ (shape : Shape) (turns : ℕ) (chosen : Path → ℕ) (l : Location) wh
     pub parts_of : RuleCodes → List Reading → Locations → List StandingPart
     parts_of no_rules rs ls = []
     parts_of (rule_then P Ps) rs ls = part (meaning shape turns chosen P rs ls) (λ A p. standing P rs ls A p) ∷ parts_of Ps rs ls
+
+abbrev pub StandingIsTold : Type 0
+StandingIsTold = (shape : Shape) (turns : ℕ) (chosen : Path → ℕ) (l : Location) (P : RuleCode) (rs : List Reading) (ls : Locations) (A : State) (p : Path) (U : UpdateSet)
+    → (meaning shape turns chosen P rs ls A p).result ≡ Gives U → standing shape turns chosen l P rs ls A p ≡ stands l (telling shape turns chosen P rs ls A p)
