@@ -54,11 +54,9 @@ pub(crate) fn make_row(
             argument: Box::new(alloc, argument)?,
         });
     }
-    let mut arguments = Vec::with_capacity(alloc, 1)?;
-    arguments.push(argument)?;
     Ok(Code::FunctionAt {
         function: f,
-        arguments,
+        arguments: vec![in alloc; argument]?,
     })
 }
 
@@ -75,18 +73,12 @@ pub(crate) fn make_grid(
     ensures { IfOk result (λ t. IsRead signature.now f (tree.code_then (code_of row) (tree.code_then (code_of column) tree.no_codes)) (code_of t)) }
 {
     if let Some(place) = grid_of(signature, f) {
-        return Ok(Code::Grid {
-            place,
-            row: Box::new(alloc, row)?,
-            column: Box::new(alloc, column)?,
-        });
+        let (row, column) = boxed(alloc, row, column)?;
+        return Ok(Code::Grid { place, row, column });
     }
-    let mut arguments = Vec::with_capacity(alloc, 2)?;
-    arguments.push(row)?;
-    arguments.push(column)?;
     Ok(Code::FunctionAt {
         function: f,
-        arguments,
+        arguments: vec![in alloc; row, column]?,
     })
 }
 
@@ -138,11 +130,9 @@ pub(crate) fn row_target(
             argument: Box::new(alloc, argument)?,
         });
     }
-    let mut arguments = Vec::with_capacity(alloc, 1)?;
-    arguments.push(argument)?;
     Ok(TargetCode::FunctionAt {
         function: f,
-        arguments,
+        arguments: vec![in alloc; argument]?,
     })
 }
 
@@ -159,19 +149,23 @@ pub(crate) fn grid_target(
     ensures { IfOk result (λ to. IsLocated signature.now f (tree.code_then (code_of row) (tree.code_then (code_of column) tree.no_codes)) (target_code_of to)) }
 {
     if let Some(place) = grid_of(signature, f) {
-        return Ok(TargetCode::Grid {
-            place,
-            row: Box::new(alloc, row)?,
-            column: Box::new(alloc, column)?,
-        });
+        let (row, column) = boxed(alloc, row, column)?;
+        return Ok(TargetCode::Grid { place, row, column });
     }
-    let mut arguments = Vec::with_capacity(alloc, 2)?;
-    arguments.push(row)?;
-    arguments.push(column)?;
     Ok(TargetCode::FunctionAt {
         function: f,
-        arguments,
+        arguments: vec![in alloc; row, column]?,
     })
+}
+
+/// Two codes in boxes.
+fn boxed(alloc: Global, row: Code, column: Code) -> Result<(Box<Code>, Box<Code>), AllocError>
+    ensures row { IfOk result (λ boxes. boxes.0.value ≡ row) }
+    ensures column { IfOk result (λ boxes. boxes.1.value ≡ column) }
+{
+    let row = Box::new(alloc, row)?;
+    let column = Box::new(alloc, column)?;
+    Ok((row, column))
 }
 
 /// The number of the first location of a controlled function with one argument, and the codes of

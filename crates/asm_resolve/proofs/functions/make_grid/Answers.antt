@@ -1,4 +1,4 @@
-use Rattle.std.proofs.Common.{[], ◌∷◌, ◌++◌, ap, ◌∙◌, arith}
+use Rattle.std.proofs.Common.{arith}
 use Rattle.asm_resolve.proofs.FunctionReads.{grid_read, listed_read}
 use Rattle.asm_resolve.proofs.functions.make_grid.Goals as goal
 
@@ -6,10 +6,9 @@ pub returns-in-Some : goal.returns-in-Some
 returns-in-Some c =
     let is = c.in-Some.ensures in
     let at = c.in-Some.place in
+    let in_boxes = c.in_ok-row in
     grid_read c.args.signature.now c.args.f c.requires.fits is.rows is.columns is.domain is.down is.across is.at_rows is.at_columns at.first is.begins
-    at.rows at.columns is.row_span is.column_span c.in_ok-new.field-0 c.in_ok-new-2.field-0 c.args.row c.args.column c.in_ok-new.ensures.ok c.in_ok-new-2.ensures.ok
+    at.rows at.columns is.row_span is.column_span in_boxes.row in_boxes.column c.args.row c.args.column in_boxes.ensures.row in_boxes.ensures.column
 
 pub returns : goal.returns
-returns c =
-    let items = c.in_ok-push-2.ensures.items ∙ ap (λ ts. ts ++ c.args.column ∷ []) (c.in_ok-push.ensures.items ∙ ap (λ ts. ts ++ c.args.row ∷ []) c.in_ok-arguments.ensures.items) in
-    listed_read c.args.signature.now c.args.f c.push-2.new.self _ c.requires.known (omega arith) items
+returns c = listed_read c.args.signature.now c.args.f c.in_ok-vec.field-0 _ c.requires.known (omega arith) c.in_ok-vec.ensures.items

@@ -1,4 +1,4 @@
-use Rattle.std.proofs.Common.{[], ◌∷◌, ◌++◌, ap, ◌∙◌, arith}
+use Rattle.std.proofs.Common.{arith}
 use Rattle.asm_resolve.proofs.FunctionReads.{row_read, listed_read}
 use Rattle.asm_resolve.proofs.functions.make_row.Goals as goal
 
@@ -9,6 +9,4 @@ returns-in-Some c =
     c.in-Some.first is.begins c.in-Some.over is.span c.in_ok-new.field-0 c.args.argument c.in_ok-new.ensures.ok
 
 pub returns : goal.returns
-returns c =
-    let items = c.in_ok-push.ensures.items ∙ ap (λ ts. ts ++ c.args.argument ∷ []) c.in_ok-arguments.ensures.items in
-    listed_read c.args.signature.now c.args.f c.push.new.self _ c.requires.known (omega arith) items
+returns c = listed_read c.args.signature.now c.args.f c.in_ok-vec.field-0 _ c.requires.known (omega arith) c.in_ok-vec.ensures.items
