@@ -46,8 +46,8 @@ impl Numbering {
         ensures { IfOk result (IsNumberingOf []) }
     {
         Ok(Numbering {
-            names: NumberedNames::new(alloc, names.key(), names.len())?,
             likely: names.guesses().copy(alloc)?,
+            names: NumberedNames::new(alloc, names.key(), names.len())?,
             indices: Indices::new(alloc),
         })
     }
