@@ -55,8 +55,8 @@ impl Checked {
         requires numbered { IsNumberingOf (first_declarations (spec_of spec)) numbering }
         ensures { IfOk result (λ c. c.spec ≡ spec) }
     {
-        let signature = signature_of(alloc, &spec, &numbering)?;
         let bodies = BodyIndices::of(alloc, &spec.items)?;
+        let signature = signature_of(alloc, &spec, &numbering)?;
         let main = main_of(&spec, &numbering);
         Ok(Checked {
             spec,

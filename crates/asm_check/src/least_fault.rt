@@ -6,7 +6,7 @@ ghost use Rattle.asm_check.specs.code.LeastFaults.{least_after, is_before};
 use crate::error::{CheckError, FaultKind};
 
 /// The least fault that was met so far: the least offset, and there the least number.
-#[derive(Clone, Copy, Debug)]
+#[derive(Clone, Copy)]
 pub(crate) struct LeastFault {
     pub found: Option<CheckError>,
 }

@@ -46,8 +46,8 @@ impl<'a> NameTable<'a> {
         ensures empty { IfOk result (λ names. names ≡ []) }
     {
         Ok(NameTable {
-            table: IndexMap::with_capacity_and_hasher(alloc, count, key)?,
             guesses: GuessedIndices::new(alloc, count)?,
+            table: IndexMap::with_capacity_and_hasher(alloc, count, key)?,
         })
     }
 

@@ -46,8 +46,8 @@ impl Numbering {
         ensures { IfOk result (IsNumberingOf []) }
     {
         Ok(Numbering {
-            names: NumberedNames::new(alloc, names.key(), names.len())?,
             likely: names.guesses().copy(alloc)?,
+            names: NumberedNames::new(alloc, names.key(), names.len())?,
             indices: Indices::new(alloc),
         })
     }
@@ -178,26 +178,16 @@ impl Indices {
     {
         match meaning {
             DeclaredAs::Predeclared => Ok(None),
-            DeclaredAs::Range { .. } => Ok(Some(NameNumber::Universe(push(
-                &mut self.universes,
-                index,
-            )?))),
-            DeclaredAs::Enumeration(_) => Ok(Some(NameNumber::Universe(push(
-                &mut self.universes,
-                index,
-            )?))),
+            DeclaredAs::Range { .. } | DeclaredAs::Enumeration(_) => {
+                Ok(Some(NameNumber::Universe(push(&mut self.universes, index)?)))
+            }
             DeclaredAs::Element(_) => Ok(Some(NameNumber::Element(push(
                 &mut self.elements,
                 index,
             )?))),
-            DeclaredAs::Controlled(_) => Ok(Some(NameNumber::Function(push(
-                &mut self.functions,
-                index,
-            )?))),
-            DeclaredAs::Static(_) => Ok(Some(NameNumber::Function(push(
-                &mut self.functions,
-                index,
-            )?))),
+            DeclaredAs::Controlled(_) | DeclaredAs::Static(_) => {
+                Ok(Some(NameNumber::Function(push(&mut self.functions, index)?)))
+            }
             DeclaredAs::Derived(_) => Ok(Some(NameNumber::Derived(push(
                 &mut self.derived,
                 index,

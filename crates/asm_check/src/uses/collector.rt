@@ -81,7 +81,12 @@ impl<'a> Collector<'a> {
     fn is_binder(&self, name: &Text) -> bool
         ensures { result ≡ list_any (λ b. names.is_text b.now name.now) self.now.binders.items }
     {
-        self.binders.iter().any(|binder| binder.is_same_text(name))
+        for binder in &self.binders {
+            if binder.is_same_text(name) {
+                return true;
+            }
+        }
+        false
     }
 
     /// Whether a parameter has this name.
@@ -155,10 +160,10 @@ impl<'a> Collector<'a> {
                 self.term(first)?;
                 self.links(rest)
             }
-            Term::Not(inner) => self.term(inner),
-            Term::Negative(inner) => self.term(inner),
-            Term::Exists { name, over, test } => self.quantified(name, over, test),
-            Term::Every { name, over, test } => self.quantified(name, over, test),
+            Term::Not(inner) | Term::Negative(inner) => self.term(inner),
+            Term::Exists { name, over, test } | Term::Every { name, over, test } => {
+                self.quantified(name, over, test)
+            }
             Term::Result(name) => self.add(Role::AsResult, name, 0),
         }
     }

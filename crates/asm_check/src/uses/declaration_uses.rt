@@ -12,7 +12,7 @@ use asm_syntax::term::Term;
 use std::alloc::{AllocError, Global};
 
 /// What a name is used as.
-#[derive(Clone, Copy, Debug, PartialEq, Eq)]
+#[derive(Clone, Copy)]
 pub(crate) enum Role {
     InTerm,
     AsTarget,
@@ -56,8 +56,9 @@ fn uses_of_item<'a>(alloc: Global, item: &'a Item) -> Result<Vec<Use<'a>>, Alloc
     ensures { IfOk result (λ uses. map use_of uses.items ≡ uses_of (item_of item.now)) }
 {
     match item {
-        Item::Uses(_) | Item::Init(_) => Ok(Vec::new(alloc)),
-        Item::Enum { .. } | Item::Universe { .. } => Ok(Vec::new(alloc)),
+        Item::Uses(_) | Item::Init(_) | Item::Enum { .. } | Item::Universe { .. } => {
+            Ok(Vec::new(alloc))
+        }
         Item::Function {
             domain,
             codomain,

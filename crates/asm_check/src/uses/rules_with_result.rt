@@ -25,7 +25,12 @@ use asm_syntax::spec::{Item, Spec};
 pub(crate) fn has_result(uses: &[Use]) -> bool
     ensures { result ≡ list_any (λ u. meanings.is_result (role_of u.role)) uses.now }
 {
-    uses.iter().any(|used| is_result(used.role))
+    for used in uses {
+        if is_result(used.role) {
+            return true;
+        }
+    }
+    false
 }
 
 fn is_result(role: Role) -> bool

@@ -86,7 +86,10 @@ fn note_declared(names: &NameTable, used: Use, least: &mut LeastFault)
 fn is_miscounted(arguments: Option<usize>, count: usize) -> bool
     ensures { result ≡ miscounts arguments count }
 {
-    arguments.is_some_and(|arguments| count != arguments)
+    match arguments {
+        Some(arguments) => count != arguments,
+        None => false,
+    }
 }
 
 fn is_target(role: Role) -> bool
