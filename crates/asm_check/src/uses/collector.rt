@@ -81,12 +81,7 @@ impl<'a> Collector<'a> {
     fn is_binder(&self, name: &Text) -> bool
         ensures { result ≡ list_any (λ b. names.is_text b.now name.now) self.now.binders.items }
     {
-        for binder in &self.binders {
-            if binder.is_same_text(name) {
-                return true;
-            }
-        }
-        false
+        self.binders.iter().any(|binder| binder.is_same_text(name))
     }
 
     /// Whether a parameter has this name.

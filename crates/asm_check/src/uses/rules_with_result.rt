@@ -25,12 +25,7 @@ use asm_syntax::spec::{Item, Spec};
 pub(crate) fn has_result(uses: &[Use]) -> bool
     ensures { result ≡ list_any (λ u. meanings.is_result (role_of u.role)) uses.now }
 {
-    for used in uses {
-        if is_result(used.role) {
-            return true;
-        }
-    }
-    false
+    uses.iter().any(|used| is_result(used.role))
 }
 
 fn is_result(role: Role) -> bool

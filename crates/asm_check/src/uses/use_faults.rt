@@ -86,10 +86,7 @@ fn note_declared(names: &NameTable, used: Use, least: &mut LeastFault)
 fn is_miscounted(arguments: Option<usize>, count: usize) -> bool
     ensures { result ≡ miscounts arguments count }
 {
-    match arguments {
-        Some(arguments) => count != arguments,
-        None => false,
-    }
+    arguments.is_some_and(|arguments| count != arguments)
 }
 
 fn is_target(role: Role) -> bool
