@@ -13,7 +13,7 @@ use clap::{Arg, Command};
 use std::alloc::{AllocError, Global};
 
 /// What an argument of a command is.
-#[derive(Clone, Copy, Debug)]
+#[derive(Clone, Copy)]
 pub(crate) enum Argument {
     /// The specification's file, a word of its own that can't be left out.
     Specification,
