@@ -3,19 +3,24 @@ ghost use Rattle.std.specs.Prelude.{◌≡◌, ◌∷◌, [], Some, map, option_
 ghost use Rattle.clap.specs.Kinds.{HasKind};
 ghost use Rattle.clap.specs.Values.{kind_of};
 ghost use Rattle.clap.specs.Walk.{texts};
-ghost use Rattle.clap.specs.Words.{app_of, found_of, rows_of};
+ghost use Rattle.clap.specs.Words.{app_of, first_value, found_of, rows_of};
 ghost use Rattle.clap.specs.declared.error.kind.ErrorKind.TheVariants.{ArgumentConflict, OutOfMemory};
+ghost use Rattle.asm_arguments.specs.Numbers.{HaveNumbers};
 ghost use Rattle.asm_explore_words.specs.CommandLine as line;
 ghost use Rattle.asm_explore_words.specs.CommandLine.{refusals, run_refusals};
-ghost use Rattle.asm_explore_words.specs.WordsSaid.{AreParsed, AreRunParsed, AreRunRead, AreRunSaid, AreSaid, AreSaidBehind, ExplainsBehind, ExplainsRun, IsFaultOf, are_in_range, are_run_in_range, is_task_in_range, run_rows};
+ghost use Rattle.asm_explore_words.specs.WordsSaid.{AreParsed, AreRead, AreRunParsed, AreRunRead, AreRunSaid, AreSaid, AreSaidBehind, Explains, ExplainsBehind, ExplainsRandom, ExplainsRun, IsFaultOf, are_in_range, are_run_in_range, is_task_in_range, number_options, run_number_options, run_rows};
 
-use crate::arguments::{flag, is_set, text, texts, texts_of, word};
+use crate::arguments::{is_set, texts_of};
+use crate::commands::{Argument, described, with_arguments};
 use crate::fault::Fault;
 use crate::help;
 use crate::number_options::{OUTCOMES, RUN_STEPS, STATES, STEPS, TURNS, WORKERS};
 use crate::random_words::{random, random_settings};
 use crate::settings::{RunSettings, Settings, Task, is_standard_input};
-use asm_arguments::numbers::{number, number_of};
+use crate::text_options::{
+    ALWAYS, ALWAYS_FILE, DEADLOCK_UNLESS, DOT, PROGRESS, SCRIPT, TRACE, WITHIN,
+};
+use asm_arguments::numbers::number_of;
 use clap::error::ErrorKind;
 use clap::{ArgMatches, Command, Error};
 use std::alloc::{AllocError, Global};
@@ -39,6 +44,31 @@ const CALLED_CHOICES: &str = "asm-explore choices";
 /// The command `clash` as its help shows it.
 const CALLED_CLASH: &str = "asm-explore clash";
 
+/// The arguments of `all`.
+static ALL_ARGUMENTS: [Argument; 13] = [
+    Argument::Specification,
+    Argument::Number(STEPS),
+    Argument::Number(TURNS),
+    ALWAYS,
+    ALWAYS_FILE,
+    DEADLOCK_UNLESS,
+    WITHIN,
+    Argument::Number(STATES),
+    Argument::Number(OUTCOMES),
+    Argument::Number(WORKERS),
+    DOT,
+    TRACE,
+    PROGRESS,
+];
+
+/// The arguments of `choices` and `clash`.
+static RUN_ARGUMENTS: [Argument; 4] = [
+    Argument::Specification,
+    Argument::Number(RUN_STEPS),
+    Argument::Number(TURNS),
+    SCRIPT,
+];
+
 impl<'w> From<Error> for Fault<'w> {
     ghost from_gives = { λ error fault. IsFaultOf error fault };
 
@@ -58,12 +88,8 @@ pub fn settings<'w, S: AsStr>(alloc: Global, words: &'w [S]) -> Result<Task<'w>,
     ensures refused { IfErr result (ExplainsBehind (map S.text words.entry.now)) }
 {
     match words.split_first() {
-        Some((command, words)) if command.as_str() == ALL => {
-            Ok(Task::All(all_settings(alloc, words)?))
-        }
-        Some((command, words)) if command.as_str() == RANDOM => {
-            Ok(Task::Random(random_settings(alloc, words)?))
-        }
+        Some((command, words)) if command.as_str() == ALL => all_task(alloc, words),
+        Some((command, words)) if command.as_str() == RANDOM => random_task(alloc, words),
         Some((command, words)) if command.as_str() == CHOICES => Ok(Task::Choices(run_settings(
             alloc,
             CALLED_CHOICES,
@@ -73,8 +99,28 @@ pub fn settings<'w, S: AsStr>(alloc: Global, words: &'w [S]) -> Result<Task<'w>,
         Some((command, words)) if command.as_str() == CLASH => {
             Ok(Task::Clash(run_settings(alloc, CALLED_CLASH, help::CLASH, words)?))
         }
-        _ => Err(without_command(alloc, words)?.into()),
+        _ => Err(without_command(alloc, words)),
     }
+}
+
+/// What the words after `all` ask for.
+fn all_task<'w, S: AsStr>(alloc: Global, words: &'w [S]) -> Result<Task<'w>, Fault<'w>>
+    ensures in_range { IfOk result (λ task. IsTrue (is_task_in_range task)) }
+    ensures said { IfOk result (AreSaidBehind (codes "all" ∷ map S.text words.entry.now)) }
+    ensures refused { IfErr result (Explains (map S.text words.entry.now)) }
+{
+    let settings = all_settings(alloc, words)?;
+    Ok(Task::All(settings))
+}
+
+/// What the words after `random` ask for.
+fn random_task<'w, S: AsStr>(alloc: Global, words: &'w [S]) -> Result<Task<'w>, Fault<'w>>
+    ensures in_range { IfOk result (λ task. IsTrue (is_task_in_range task)) }
+    ensures said { IfOk result (AreSaidBehind (codes "random" ∷ map S.text words.entry.now)) }
+    ensures refused { IfErr result (ExplainsRandom (map S.text words.entry.now)) }
+{
+    let settings = random_settings(alloc, words)?;
+    Ok(Task::Random(settings))
 }
 
 /// The settings that the words after `all` give.
@@ -85,20 +131,32 @@ fn all_settings<'w, S: AsStr>(alloc: Global, words: &'w [S]) -> Result<Settings<
     ensures refused { IfErr result (HasKind (refusals (map S.text words.entry.now))) }
 {
     let given = given(alloc, words)?;
+    let settings = all_read(alloc, &given);
+    drop(given);
+    Ok(settings?)
+}
+
+/// The settings that are among what the words after `all` give.
+fn all_read<'w>(alloc: Global, given: &ArgMatches<'w>) -> Result<Settings<'w>, AllocError>
+    requires spec { is_some (first_value (found_of given.now) (codes "spec")) ≡ true }
+    requires numbers { HaveNumbers (found_of given.now) number_options }
+    ensures in_range { IfOk result (λ s. IsTrue (are_in_range s)) }
+    ensures read { IfOk result (AreRead (rows_of (found_of given.now))) }
+{
     Ok(Settings {
         spec: given.get_str("spec").unwrap(),
-        steps: number_of(&given, STEPS),
-        turns: number_of(&given, TURNS),
-        states: number_of(&given, STATES),
-        outcomes: number_of(&given, OUTCOMES),
-        always: texts_of(alloc, &given, "always")?,
-        always_files: texts_of(alloc, &given, "always-file")?,
+        steps: number_of(given, STEPS),
+        turns: number_of(given, TURNS),
+        states: number_of(given, STATES),
+        outcomes: number_of(given, OUTCOMES),
+        always: texts_of(alloc, given, "always")?,
+        always_files: texts_of(alloc, given, "always-file")?,
         when_quiet: given.get_str("deadlock-unless"),
         within: given.get_str("within"),
-        workers: number_of(&given, WORKERS),
+        workers: number_of(given, WORKERS),
         dot: given.get_str("dot"),
-        trace: is_set(&given, "trace"),
-        progress: is_set(&given, "progress"),
+        trace: is_set(given, "trace"),
+        progress: is_set(given, "progress"),
     })
 }
 
@@ -117,25 +175,9 @@ fn given<'w, S: AsStr>(alloc: Global, words: &'w [S]) -> Result<ArgMatches<'w>, 
 fn all<'w>(alloc: Global) -> Result<Command<'w>, AllocError>
     ensures { IfOk result (λ c. app_of c ≡ line.command) }
 {
-    Command::new(alloc, "asm-explore all")
-        .display_name(help::NAME)?
-        .version(help::VERSION)
-        .about(help::ALL)
-        .after_help(help::AFTER_ALL)
-        .no_binary_name(true)
-        .arg(word(alloc, "spec", "SPEC", help::SPEC).required(true))?
-        .arg(number(alloc, STEPS))?
-        .arg(number(alloc, TURNS))?
-        .arg(texts(alloc, "always", "COND", help::ALWAYS))?
-        .arg(texts(alloc, "always-file", "FILE", help::ALWAYS_FILE))?
-        .arg(text(alloc, "deadlock-unless", "COND", help::DEADLOCK_UNLESS))?
-        .arg(text(alloc, "within", "COND", help::WITHIN))?
-        .arg(number(alloc, STATES))?
-        .arg(number(alloc, OUTCOMES))?
-        .arg(number(alloc, WORKERS))?
-        .arg(text(alloc, "dot", "FILE", help::DOT))?
-        .arg(flag(alloc, "trace", help::TRACE))?
-        .arg(flag(alloc, "progress", help::PROGRESS))
+    let command = Command::new(alloc, "asm-explore all").display_name(help::NAME)?;
+    let command = described(command, help::ALL, help::AFTER_ALL);
+    with_arguments(alloc, command, &ALL_ARGUMENTS)
 }
 
 /// The settings that the words after `choices` or `clash` give.
@@ -162,7 +204,9 @@ fn both_are_input<'w>(alloc: Global, called: &'w str, about: &'w str) -> Result<
     ensures memory { IfErr result (λ error. kind_of error ≡ OutOfMemory) }
 {
     let mut command = run_command(alloc, called, about)?;
-    Ok(command.error(ErrorKind::ArgumentConflict, help::ONE_INPUT)?)
+    let error = command.error(ErrorKind::ArgumentConflict, help::ONE_INPUT);
+    drop(command);
+    Ok(error?)
 }
 
 /// The same settings, whether or not the specification and the script are both standard input.
@@ -178,12 +222,14 @@ fn run_given<'w, S: AsStr>(
     ensures refused { IfErr result (HasKind (run_refusals (map S.text words.entry.now))) }
 {
     let given = run_parsed(alloc, called, about, words)?;
-    Ok(RunSettings {
+    let settings = RunSettings {
         spec: given.get_str("spec").unwrap(),
         steps: number_of(&given, RUN_STEPS),
         turns: number_of(&given, TURNS),
         script: given.get_str("script"),
-    })
+    };
+    drop(given);
+    Ok(settings)
 }
 
 /// What the words after `choices` or `clash` give.
@@ -211,24 +257,34 @@ fn run_command<'w>(
 ) -> Result<Command<'w>, AllocError>
     ensures { IfOk result (λ c. app_of c ≡ line.run_command) }
 {
-    Command::new(alloc, help::NAME)
-        .bin_name(called)?
-        .version(help::VERSION)
-        .about(about)
-        .after_help(help::AFTER_RUN)
-        .no_binary_name(true)
-        .arg(word(alloc, "spec", "SPEC", help::SPEC).required(true))?
-        .arg(number(alloc, RUN_STEPS))?
-        .arg(number(alloc, TURNS))?
-        .arg(text(alloc, "script", "FILE", help::SCRIPT))
+    let command = Command::new(alloc, help::NAME).bin_name(called)?;
+    let command = described(command, about, help::AFTER_RUN);
+    with_arguments(alloc, command, &RUN_ARGUMENTS)
 }
 
-/// What is to be said of words that don't begin with a command.
-fn without_command<'w, S: AsStr>(alloc: Global, words: &'w [S]) -> Result<Error, Error> {
-    let mut commands = commands(alloc)?;
+/// The fault of words that don't begin with a command.
+fn without_command<'w, S: AsStr>(alloc: Global, words: &'w [S]) -> Fault<'w> {
+    match commands(alloc) {
+        Ok(mut commands) => {
+            let error = refused(&mut commands, words);
+            drop(commands);
+            error.into()
+        }
+        Err(_) => Fault::Memory,
+    }
+}
+
+/// What is to be said of these words, which don't begin with one of the commands.
+fn refused<'w, S: AsStr>(commands: &mut Command<'w>, words: &'w [S]) -> Error {
     match commands.try_get_matches_from_mut(words) {
-        Ok(_) => Ok(commands.error(ErrorKind::MissingSubcommand, help::COMMAND_FIRST)?),
-        Err(error) => Ok(error),
+        Ok(matches) => {
+            drop(matches);
+            match commands.error(ErrorKind::MissingSubcommand, help::COMMAND_FIRST) {
+                Ok(error) => error,
+                Err(error) => error.into(),
+            }
+        }
+        Err(error) => error,
     }
 }
 

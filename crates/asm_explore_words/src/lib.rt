@@ -3,9 +3,11 @@
 
 mod arguments;
 pub mod command_line;
+mod commands;
 pub mod fault;
 mod help;
 mod number_options;
 mod random_words;
 pub mod sentences;
 pub mod settings;
+mod text_options;
