@@ -23,6 +23,7 @@ HEAD = [
     "# digest of the sources and definitions, how many functions there are, and the large ones, each with its megabytes.",
 ]
 UNMEASURED = "unmeasured"
+ROW = re.compile(r"(\w+) (?:unmeasured|([0-9a-f]{16}) (\d+)((?: \S+ \d+\.\d)*))")
 TEST = re.compile(r"(?m)^\s*#\[test\]")
 
 # A module that a check of a crate kept, and its path in the crate.
@@ -121,18 +122,19 @@ class Measured(NamedTuple):
         return " ".join([crate, self.digest, *([str(self.count), *large] if self.digest != UNMEASURED else [])])
 
 
-def read_line(line):
-    """The crate of a line of the record, and what was measured of it."""
-    crate, *words = line.split()
-    if words == [UNMEASURED]:
-        return crate, Measured()
-    return crate, Measured(words[0], int(words[1]), dict(zip(words[2::2], map(float, words[3::2]))))
-
-
 def read_record(root):
-    """What was measured, by crate."""
-    lines = (root / RECORD).read_text(encoding="utf-8").splitlines()
-    return dict(read_line(line) for line in lines if line and not line.startswith("#"))
+    """What was measured, by crate, and the lines that say nothing."""
+    found, wrong = {}, []
+    for line in (root / RECORD).read_text(encoding="utf-8").splitlines():
+        row = ROW.fullmatch(line)
+        if row and row[2]:
+            words = row[4].split()
+            found[row[1]] = Measured(row[2], int(row[3]), dict(zip(words[::2], map(float, words[1::2]))))
+        elif row:
+            found[row[1]] = Measured()
+        elif not line.startswith("#"):
+            wrong.append(line)
+    return found, wrong
 
 
 def write_record(root, found):
