@@ -84,14 +84,26 @@ def kept(folder):
     return sorted(modules, key=lambda it: it.written)
 
 
+def sources(folder):
+    """The text of all sources of a crate."""
+    return "\n".join(path.read_text(encoding="utf-8") for path in sorted(folder.glob("src/**/*.rt")))
+
+
+def is_there(name, text):
+    """Whether a function is still in these sources, or is made by a derive or for a closure or a drop, as far as its name says."""
+    *around, last = name.split("::")
+    is_derived = around and around[-1][:1].isupper() and not re.search(rf"\b{re.escape(around[-1])}\b", text)
+    return bool("+" in name or "fn" in around or is_derived or re.search(rf"\bfn {re.escape(last)}\b", text))
+
+
 def kept_sizes(folder):
-    """The megabytes of the steps of each function, as the last check of a crate kept them."""
-    sizes = {}
+    """The megabytes of the steps of each function, as the last check of a crate kept them; a function that is gone may be kept, too."""
+    sizes, text = {}, sources(folder)
     for it in kept(folder):
         if it.is_code:
             around = it.owner.split("::")[:-1]
             sizes["::".join([*around, it.member]) if it.member else it.owner] = it.size / 1e6
-    return sizes
+    return {name: size for name, size in sizes.items() if is_there(name, text)}
 
 
 def library(folder):
@@ -154,7 +166,7 @@ def is_library(folder):
 
 def is_unseen(folder):
     """Whether this crate is a program or has tests, of which rt ci leaves no code."""
-    return not is_library(folder) or any(TEST.search(it.read_text(encoding="utf-8")) for it in folder.glob("src/**/*.rt"))
+    return not is_library(folder) or TEST.search(sources(folder)) is not None
 
 
 def digest_of(folder):
