@@ -6,6 +6,7 @@ tests/compare_contracts finds the contracts and definitions of both commits alik
 verdict. The record names each wrong body that it has in this way.
 """
 import contextlib
+import os
 import subprocess
 import tempfile
 
@@ -46,6 +47,20 @@ def is_same(crate, edit, other_crate, other):
     return edit.pairs == other.pairs and is_as_before
 
 
+def goal_now(crate, function, goal):
+    """Returns a goal's name as it is now.
+
+    In a recursion across modules it begins with those that are below the folder of its proof.
+    """
+    found = [it for source in crate.sources.values() for it in source.functions]
+    for it in (it for it in found if it.path() == function and it.shares_cycle):
+        top = f"{crate.tree.root}/crates/{crate.name}/proofs"
+        for at in range(len(it.module)):
+            if os.path.isdir("/".join([top, *it.module[:at], f"+{it.cycle}"])):
+                return "::".join([*it.module[at:], goal.rpartition("::")[2]])
+    return goal
+
+
 def carry_crate(tree, old_tree, name, identity):
     """Takes over what a crate's record said, and returns which wrong bodies are left to try."""
     crate = Crate(tree, name)
@@ -56,12 +71,16 @@ def carry_crate(tree, old_tree, name, identity):
         raise Failure(f"wrong/{name}: no record there holds: {why or 'it is of other sources'}")
     old_crate = Crate(old_tree, name)
     before = {it.name: it for it in old_crate.edits}
-    tried = {
-        it.name: [it.digest, *record.tried[it.name][1:]]
+    same = [
+        it
         for it in crate.edits
         if it.name in before and it.name in record.tried
         and is_same(crate, it, old_crate, before[it.name])
-    }
+    ]
+    tried = {}
+    for it in same:
+        function, goal = record.tried[it.name][1:]
+        tried[it.name] = [it.digest, function, goal_now(crate, function, goal)]
     Record(name, identity, tree.digest(name), tried, tried).write(tree.root)
     return [it.name for it in crate.edits if it.name not in tried]
 
