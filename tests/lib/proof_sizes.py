@@ -13,8 +13,8 @@ from wrong_bodies.record import Tree  # noqa: E402
 # A function whose code takes more megabytes than this as the prover's steps is large.
 BOUND = 6.0
 
-# The megabytes of steps of any function, and those of each statement of its code.
-EACH_FUNCTION, EACH_STATEMENT = 1.0, 0.034
+# The megabytes of steps of any function, those of each statement of its code, and more of each for each lifetime and bound of its type.
+FACTORS = (0.5, 0.032, 0.0028)
 
 # What was measured of programs and tests, and how its file begins.
 RECORD = ".ci/measured_sizes"
@@ -111,15 +111,18 @@ def library(folder):
     return folder / "out" / "rlib" / f"{folder.name}.rlib" / "toolchain" / "mir.json"
 
 
-def statements(folder):
-    """How many statements the code of each function of a built library has."""
-    functions = json.loads(library(folder).read_bytes())
-    return {name.partition("::")[2]: sum(it not in ("Seq", "Skip") for it in code["body"]) for name, code in functions}
+def counts(folder):
+    """What the factors are for, of each function of a built library: 1, its statements, and these for each lifetime and bound."""
+    found = {}
+    for name, code in json.loads(library(folder).read_bytes()):
+        statements = sum(it not in ("Seq", "Skip") for it in code["body"])
+        found[name.partition("::")[2]] = (1, statements, statements * (code["lifetimes"] + len(code["generics"]["bounds"])))
+    return found
 
 
-def estimated(count):
-    """The megabytes that the steps of a function with so many statements take."""
-    return EACH_FUNCTION + EACH_STATEMENT * count
+def estimated(row):
+    """The megabytes that the steps of a function with these counts take."""
+    return sum(factor * count for factor, count in zip(FACTORS, row))
 
 
 class Measured(NamedTuple):
