@@ -270,7 +270,7 @@ fn without_command<'w, S: AsStr>(alloc: Global, words: &'w [S]) -> Fault<'w> {
             drop(commands);
             error.into()
         }
-        Err(_) => Fault::Memory,
+        Err(error) => error.into(),
     }
 }
 
