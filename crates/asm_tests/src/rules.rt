@@ -49,8 +49,10 @@ pub fn specification(alloc: Global, body: &str) -> Result<Checked, Unchecked> {
     checked_of_both(alloc, BEFORE, body)
 }
 
-/// Bodies, and how often they ask.
-pub static ASKING: [(&str, u64); 25] = [
+/// A body, and how often it asks.
+pub type Asking = (&'static str, u64);
+
+pub static ASKING: [Asking; 25] = [
     ("skip", 0),
     ("choose k in Color do skip endchoose", 1),
     ("choose k in Color with k != red do skip endchoose", 1),

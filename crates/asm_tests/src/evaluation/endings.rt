@@ -215,19 +215,41 @@ static ENDINGS: [Ending; 34] = [
     ),
 ];
 
+/// How the steps of a specification end under a script with these lines.
+fn ending_under(
+    alloc: Global,
+    checked: &Checked,
+    lines: &str,
+    turns: u32,
+) -> Result<(u64, End), Fail> {
+    let script = script_of(alloc, lines)?;
+    let ended = steps(alloc, checked, &script, turns);
+    drop(script);
+    Ok(ended?)
+}
+
 /// How the steps of a body end.
 fn ending(alloc: Global, row: &Ending) -> Result<(u64, End), Fail> {
     let (body, lines, turns, _, _) = row;
     let checked = checked_of_both(alloc, BEFORE, body)?;
-    let script = script_of(alloc, lines)?;
-    Ok(steps(alloc, &checked, &script, *turns)?)
+    let ended = ending_under(alloc, &checked, lines, *turns);
+    drop(checked);
+    ended
+}
+
+/// The first body whose steps end otherwise.
+fn first_other(alloc: Global, rows: &'static [Ending]) -> Result<Option<&'static str>, Fail> {
+    for row in rows {
+        let (body, _, _, fired, end) = row;
+        if ending(alloc, row)? != (*fired, *end) {
+            return Ok(Some(*body));
+        }
+    }
+    Ok(None)
 }
 
 #[test]
 fn steps_end_as_worked_out(rt: HostRuntime) -> Result<(), Fail> {
-    for row in &ENDINGS {
-        let (body, _, _, fired, end) = row;
-        assert!(rt; ending(rt.alloc(), row)? == (*fired, *end), "{body}");
-    }
+    assert_eq!(rt; first_other(rt.alloc(), &ENDINGS)?, None);
     Ok(())
 }

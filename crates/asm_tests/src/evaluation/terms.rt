@@ -38,8 +38,10 @@ p56, p57, p58, p59, p60, p61, p62, p63, p64, p65) = \
 p0 * 1000 + p1 * 100 + p2 * 10 + p65 \
 rule M = x := ";
 
-/// Terms with their values.
-static VALUED: [(&str, Plain); 82] = [
+/// A term with its value.
+type Valued = (&'static str, Plain);
+
+static VALUED: [Valued; 82] = [
     ("x", Plain::Undef),
     ("blue", Plain::Element(2)),
     ("1 + 2 * 3 - 4", THREE),
@@ -154,16 +156,26 @@ fn assigned(alloc: Global, checked: &Checked) -> Result<Option<Word>, AllocError
     Ok(Some(found))
 }
 
-/// Whether a term has this value.
-fn has_value(alloc: Global, term: &str, expected: Plain) -> Result<bool, Fail> {
+/// The value of a term, if the main rule assigns it.
+fn value_of(alloc: Global, term: &str) -> Result<Option<Word>, Fail> {
     let checked = checked_of_both(alloc, BEFORE, term)?;
-    Ok(assigned(alloc, &checked)? == Some(value(expected)))
+    let found = assigned(alloc, &checked);
+    drop(checked);
+    Ok(found?)
+}
+
+/// The first term that has another value.
+fn first_other(alloc: Global, rows: &'static [Valued]) -> Result<Option<&'static str>, Fail> {
+    for (term, expected) in rows {
+        if value_of(alloc, term)? != Some(value(*expected)) {
+            return Ok(Some(*term));
+        }
+    }
+    Ok(None)
 }
 
 #[test]
 fn terms_have_their_values(rt: HostRuntime) -> Result<(), Fail> {
-    for (term, expected) in &VALUED {
-        assert!(rt; has_value(rt.alloc(), term, *expected)?, "{term}");
-    }
+    assert_eq!(rt; first_other(rt.alloc(), &VALUED)?, None);
     Ok(())
 }

@@ -108,6 +108,7 @@ static TABLES: [(&[&[Plain]], bool); 14] = [
     (&[&[TWO], &[ONE], &[ZERO], &[ONE]], false),
     (&[&[TWO], &[ONE], &[ZERO], &[TWO]], false),
 ];
+
 /// Whether functions of one kind with these domains fit, which have no value but `Undef`.
 fn domains_fit(
     alloc: Global,

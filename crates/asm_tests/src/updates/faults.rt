@@ -74,7 +74,7 @@ static CASES: [Case; 8] = [
     (&[Call::Add(Entries::Any(&UPDATES))], None),
 ];
 
-/// Whether the set that calls leave has the fault, and still has its entries then.
+/// Whether the set that calls leave has this fault, or none.
 fn tells(alloc: Global, signature: &Signature, case: &Case) -> Result<bool, AllocError> {
     let (calls, told) = case;
     let summary = left_by(alloc, signature.count(), calls)?;
