@@ -3,7 +3,7 @@ ghost use Rattle.std.specs.Prelude.{IfOk};
 ghost use Rattle.asm_syntax.specs.code.Views.{spec_of};
 ghost use Rattle.asm_run.specs.Headline.{IsAccepted};
 ghost use Rattle.asm_explore_tool.specs.CheckedQuestions.{AreAllAsked, IsAsked};
-ghost use Rattle.asm_explore_texts.specs.Conditions.{texts_of};
+ghost use Rattle.asm_explore_texts.specs.Conditions.{MayBeConditionOf, text_of, texts_of};
 
 use crate::laws::joined_law;
 use asm_check::{Checked, check};
@@ -89,15 +89,69 @@ pub fn ask<'w>(
     ensures { IfOk result (IsAsked text.now conditions.now settings.now) }
 {
     let checked = checked(alloc, text, settings.spec)?;
+    match question_of(alloc, text, &checked, conditions, settings) {
+        Ok(question) => Ok(CheckedQuestion { checked, question }),
+        Err(fault) => {
+            drop(checked);
+            Err(fault)
+        }
+    }
+}
+
+/// What the settings ask of a specification, which has this text, by these conditions.
+fn question_of<'w>(
+    alloc: Global,
+    text: &[u8],
+    checked: &Checked,
+    conditions: &Conditions<'w>,
+    settings: &Settings<'w>,
+) -> Result<Question, Fault<'w>>
+    requires accepted { IsAccepted text.now (spec_of checked.now.spec) }
+    ensures { IfOk result (λ question. IsAsked text.now conditions.now settings.now (record { checked = checked.now; question = question })) }
+{
     let items = checked.spec.items.len();
-    let question = Question {
-        always: all_asked(alloc, text, &checked, conditions.always.as_slice())?,
-        within: optional_term(alloc, text, items, &conditions.within)?,
-        when_quiet: optional_term(alloc, text, items, &conditions.when_quiet)?,
-        turns: settings.turns,
-        steps: settings.steps,
-        states: settings.states,
-        outcomes: settings.outcomes as usize,
-    };
-    Ok(CheckedQuestion { checked, question })
+    let always = all_asked(alloc, text, checked, conditions.always.as_slice())?;
+    match other_terms(alloc, text, items, conditions) {
+        Ok(terms) => Ok(Question {
+            always,
+            within: terms.within,
+            when_quiet: terms.when_quiet,
+            turns: settings.turns,
+            steps: settings.steps,
+            states: settings.states,
+            outcomes: settings.outcomes as usize,
+        }),
+        Err(fault) => {
+            drop(always);
+            Err(fault)
+        }
+    }
+}
+
+/// The terms of the conditions that aren't to be true in each state.
+#[derive(Drop)]
+struct OtherTerms {
+    within: Option<Term>,
+    when_quiet: Option<Term>,
+}
+
+/// The terms of the conditions that aren't to be true in each state, over the specification with
+/// this text, which has `items` items.
+fn other_terms<'w>(
+    alloc: Global,
+    text: &[u8],
+    items: usize,
+    conditions: &Conditions<'w>,
+) -> Result<OtherTerms, Fault<'w>>
+    ensures within { IfOk result (λ terms. MayBeConditionOf text.now items (text_of conditions.now.within) terms.within) }
+    ensures when_quiet { IfOk result (λ terms. MayBeConditionOf text.now items (text_of conditions.now.when_quiet) terms.when_quiet) }
+{
+    let within = optional_term(alloc, text, items, &conditions.within)?;
+    match optional_term(alloc, text, items, &conditions.when_quiet) {
+        Ok(when_quiet) => Ok(OtherTerms { within, when_quiet }),
+        Err(fault) => {
+            drop(within);
+            Err(fault)
+        }
+    }
 }

@@ -223,5 +223,7 @@ pub(crate) fn choices_report<'w, R: Threads + Sync>(
     ensures { IfOk result (AreChoicesReported text.now script_text.now settings.now) }
 {
     let checked = checked(alloc, text, settings.spec)?;
-    report_of(rt, alloc, text, &checked, script_text, settings)
+    let report = report_of(rt, alloc, text, &checked, script_text, settings);
+    drop(checked);
+    report
 }

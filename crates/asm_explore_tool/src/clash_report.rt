@@ -135,5 +135,7 @@ pub(crate) fn clash_report<'w, R: Threads + Sync>(
     ensures { IfOk result (IsClashReported text.now script_text.now settings.now) }
 {
     let checked = checked(alloc, text, settings.spec)?;
-    report_of(rt, alloc, text, &checked, script_text, settings)
+    let report = report_of(rt, alloc, text, &checked, script_text, settings);
+    drop(checked);
+    report
 }

@@ -45,7 +45,14 @@ pub fn ask_random<'w>(
     ensures { IfOk result (IsRandomAsked text.now conditions.now settings.now) }
 {
     let checked = checked(alloc, text, settings.spec)?;
-    let always = all_asked(alloc, text, &checked, conditions)?;
-    let question = question_of(always, settings.turns, settings);
-    Ok(CheckedRandomQuestion { checked, question })
+    match all_asked(alloc, text, &checked, conditions) {
+        Ok(always) => {
+            let question = question_of(always, settings.turns, settings);
+            Ok(CheckedRandomQuestion { checked, question })
+        }
+        Err(fault) => {
+            drop(checked);
+            Err(fault)
+        }
+    }
 }

@@ -148,5 +148,7 @@ pub(crate) fn random_report<'w, R: Threads + Sync, W: Watch<RandomProgress>>(
     ensures { IfOk result (IsRandomReported text.now conditions.now settings.now) }
 {
     let asked = ask_random(alloc, text, conditions, settings)?;
-    reported(rt, alloc, text, &asked, conditions, settings, watch)
+    let report = reported(rt, alloc, text, &asked, conditions, settings, watch);
+    drop(asked);
+    report
 }

@@ -319,5 +319,7 @@ fn explored<'w, R: Threads + Sync, F: NewFiles, W: Watch<Progress>>(
     ensures { IfOk result (IsReported text.now conditions.now settings.now) }
 {
     let asked = ask(alloc, text, conditions, settings)?;
-    all_report(rt, files, alloc, text, &asked, conditions, settings, watch)
+    let report = all_report(rt, files, alloc, text, &asked, conditions, settings, watch);
+    drop(asked);
+    report
 }

@@ -3,12 +3,12 @@ use Rattle.asm_explore_tool.specs.CheckedQuestions.{AreAllAsked}
 use Rattle.asm_explore_texts.specs.Conditions.{texts_of}
 use Rattle.asm_explore_tool.proofs.random_asked.ask_random.Goals as goal
 
-pub returns : goal.returns
-returns c =
+pub returns-in-Ok : goal.returns-in-Ok
+returns-in-Ok c =
     let is = c.question_of-question.ensures in
     record {
       accepted = c.in_ok-checked.ensures;
-      always = subst (λ t. AreAllAsked c.args.text.now (texts_of c.args.conditions.now) c.in_ok-checked.checked t) (sym is.always) c.in_ok-always.ensures;
+      always = subst (λ t. AreAllAsked c.args.text.now (texts_of c.args.conditions.now) c.in_ok-checked.checked t) (sym is.always) c.in-Ok.ensures;
       turns = is.turns;
       steps = is.steps;
       runs = is.runs;
