@@ -65,11 +65,13 @@ fn main_outcome<'a, R: Threads + Sync>(
         choices,
         turns,
     };
-    if is_region {
+    let outcome = if is_region {
         pooled.region(alloc, &evaluation, &Frame::Empty, &code, &[])
     } else {
         pooled.outcome(alloc, &evaluation, &Frame::Empty, &code, &[])
-    }
+    };
+    drop(code);
+    outcome
 }
 
 /// The same in the initial state.
@@ -104,8 +106,9 @@ fn yielded<R: Threads + Sync + AllocGlobal>(
     let checked = specification(alloc, body)?;
     let picks = Counting::new();
     let pooled = Pooled::new(rt, limits, &NoGate);
-    let outcome = outcome_by(alloc, &pooled, &checked, &picks, limits.turns, is_region)?;
-    Ok((outcome, picks.times()))
+    let outcome = outcome_by(alloc, &pooled, &checked, &picks, limits.turns, is_region);
+    drop(checked);
+    Ok((outcome?, picks.times()))
 }
 
 /// Whether workers that share so yield the set with these instances and entries, and ask so often.

@@ -73,7 +73,9 @@ fn main_outcome<'a, R: Threads + Sync>(
         turns: 1000,
     };
     let pooled = Pooled::new(rt, &LIMITS, &NoGate);
-    pooled.outcome(alloc, &evaluation, &Frame::Empty, &code, &[])
+    let outcome = pooled.outcome(alloc, &evaluation, &Frame::Empty, &code, &[]);
+    drop(code);
+    outcome
 }
 
 /// The same in the initial state.

@@ -3,10 +3,13 @@ ghost use Rattle.std.specs.Prelude.{◌≡◌, ◌<◌, ◌+◌, All, IfOk, leng
 ghost use Rattle.asm_state.specs.Signature.{count_of};
 ghost use Rattle.asm_syntax.specs.code.Views.{spec_of};
 ghost use Rattle.asm_check.specs.Shapes.{shape_of};
+ghost use Rattle.asm_code.specs.code.RuleMeaning.{IsSoundRule};
+ghost use Rattle.asm_code.specs.code.RuleViews.{rule_of};
 ghost use Rattle.asm_eval.specs.code.Pieces.{IsPiece};
 ghost use Rattle.asm_eval.specs.code.Evaluation.{evaluation_shape};
 
 use asm_check::Checked;
+use asm_code::rule_code::RuleCode;
 use asm_eval::evaluation::Evaluation;
 use asm_eval::frame::Frame;
 use asm_eval::open::{Opened, open_piece};
@@ -91,8 +94,30 @@ fn put_behind_first_task<'a>(
     Ok(is_done.then_some(found))
 }
 
-/// That for the parts of the main rule.
-fn put_behind_first_part<'a>(
+/// That for the parts of a rule.
+fn put_behind_first_part(
+    alloc: Global,
+    evaluation: &Evaluation<'_, '_, Counting>,
+    code: &RuleCode,
+) -> Result<Option<(WordsBefore, Summary)>, AllocError>
+    requires { IsSoundRule (evaluation_shape evaluation.now) (rule_of code.now) }
+{
+    let region = Piece {
+        rule: code,
+        frame: Frame::Empty,
+        path: Path::new(Vec::new(alloc)),
+        part: Part::Whole,
+    };
+    match open_piece(alloc, evaluation, &region, 64)? {
+        Opened::Pieces { pieces, .. } => {
+            put_behind_first_task(alloc, evaluation, pieces.as_slice())
+        }
+        Opened::Closed => Ok(None),
+    }
+}
+
+/// That for the main rule.
+fn put_behind_main_rule<'a>(
     alloc: Global,
     checked: &'a Checked,
     view: &'a View<'_>,
@@ -106,18 +131,9 @@ fn put_behind_first_part<'a>(
         choices,
         turns: 1000,
     };
-    let region = Piece {
-        rule: &code,
-        frame: Frame::Empty,
-        path: Path::new(Vec::new(alloc)),
-        part: Part::Whole,
-    };
-    match open_piece(alloc, &evaluation, &region, 64)? {
-        Opened::Pieces { pieces, .. } => {
-            put_behind_first_task(alloc, &evaluation, pieces.as_slice())
-        }
-        Opened::Closed => Ok(None),
-    }
+    let found = put_behind_first_part(alloc, &evaluation, &code);
+    drop(code);
+    found
 }
 
 /// That in the initial state.
@@ -131,7 +147,7 @@ fn put_initially(
         script: &picks,
         step: 1,
     };
-    put_behind_first_part(alloc, checked, &beginning.view(), &choices)
+    put_behind_main_rule(alloc, checked, &beginning.view(), &choices)
 }
 
 /// The value 2 that the task put at the location of `a`, and the value 5 that was put after it.

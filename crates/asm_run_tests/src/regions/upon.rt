@@ -60,7 +60,9 @@ fn formed<'a, R: Threads + Sync>(
         choices,
         turns: 3,
     };
-    pooled.form(alloc, &evaluation, &Frame::Empty, &code, &mut forming)?;
+    let formed = pooled.form(alloc, &evaluation, &Frame::Empty, &code, &mut forming);
+    drop(code);
+    formed?;
     Ok(forming)
 }
 

@@ -3,8 +3,8 @@ use Rattle.asm_code.specs.code.RuleMeaning.{IsSoundRule}
 use Rattle.asm_code.specs.code.RuleViews.{rule_of}
 use Rattle.asm_run_tests.proofs.regions.outcomes.main_outcome.Goals as goal
 
-pub region-requires-clause-sound : goal.region-requires-clause-sound
-region-requires-clause-sound g c κs within = subst (λ shape. IsSoundRule shape (rule_of c.in_ok-code.code)) (sym c.requires) c.in_ok-code.ensures.sound
+pub region-outcome-requires-clause-sound : goal.region-outcome-requires-clause-sound
+region-outcome-requires-clause-sound g c κs within = subst (λ shape. IsSoundRule shape (rule_of c.in_ok-code.code)) (sym c.requires) c.in_ok-code.ensures.sound
 
-pub outcome-requires-clause-sound : goal.outcome-requires-clause-sound
-outcome-requires-clause-sound g c κs within = subst (λ shape. IsSoundRule shape (rule_of c.in_ok-code.code)) (sym c.requires) c.in_ok-code.ensures.sound
+pub outcome-outcome-requires-clause-sound : goal.outcome-outcome-requires-clause-sound
+outcome-outcome-requires-clause-sound g c κs within = subst (λ shape. IsSoundRule shape (rule_of c.in_ok-code.code)) (sym c.requires) c.in_ok-code.ensures.sound

@@ -3,5 +3,5 @@ use Rattle.asm_code.specs.code.RuleMeaning.{IsSoundRule}
 use Rattle.asm_code.specs.code.RuleViews.{rule_of}
 use Rattle.asm_run_tests.proofs.regions.upon.formed.Goals as goal
 
-pub form-requires-clause-sound : goal.form-requires-clause-sound
-form-requires-clause-sound g c κs within = subst (λ shape. IsSoundRule shape (rule_of c.in_ok-code.code)) (sym c.requires.view) c.in_ok-code.ensures.sound
+pub form-formed-requires-clause-sound : goal.form-formed-requires-clause-sound
+form-formed-requires-clause-sound g c κs within = subst (λ shape. IsSoundRule shape (rule_of c.in_ok-code.code)) (sym c.requires.view) c.in_ok-code.ensures.sound
