@@ -1,5 +1,5 @@
 //! Conditions on states, and within which states runs are looked at.
-use crate::question::{ANY, Asked, told_of};
+use crate::question::{ANY, Asked, Case, first_other};
 use crate::texts::exclusion::{MUTEX, MUTEX_WRONG};
 use crate::texts::philosophers::COUNTING;
 use crate::told::{Told, Verdict};
@@ -13,12 +13,6 @@ function controlled never rule M = count := count + 1";
 /// Counts by 1 or by 2.
 const LEAPS: &str = "CoreASM T init M universe Leap = 1 .. 2 \
 function controlled count initially 0 rule M = choose i in Leap do count := count + i endchoose";
-
-/// A text, the condition for each state, and that within which runs are looked at.
-type Question = (&'static str, &'static str, &'static str);
-
-/// A question, and what is told.
-type Case = (Question, Told);
 
 /// Nothing is looked at.
 const NOTHING: Told = Told {
@@ -40,7 +34,11 @@ const FIRST: Told = Told {
 static ALWAYS: [Case; 7] = [
     // The states with 0, 1 and 2.
     (
-        (COUNTER, "count < 3", ""),
+        COUNTER,
+        Asked {
+            always: "count < 3",
+            ..ANY
+        },
         Told {
             verdict: Verdict::Bad(3, Fault::Wrong),
             states: 3,
@@ -52,7 +50,11 @@ static ALWAYS: [Case; 7] = [
     ),
     // From 3, in the third step; the state with 4 isn't gone on from.
     (
-        (LEAPS, "count < 5", ""),
+        LEAPS,
+        Asked {
+            always: "count < 5",
+            ..ANY
+        },
         Told {
             verdict: Verdict::Bad(3, Fault::Wrong),
             states: 5,
@@ -63,7 +65,11 @@ static ALWAYS: [Case; 7] = [
         },
     ),
     (
-        (MUTEX, "isSafe", ""),
+        MUTEX,
+        Asked {
+            always: "isSafe",
+            ..ANY
+        },
         Told {
             verdict: Verdict::Closed,
             states: 24,
@@ -74,7 +80,11 @@ static ALWAYS: [Case; 7] = [
         },
     ),
     (
-        (MUTEX_WRONG, "isSafe", ""),
+        MUTEX_WRONG,
+        Asked {
+            always: "isSafe",
+            ..ANY
+        },
         Told {
             verdict: Verdict::Bad(4, Fault::Wrong),
             states: 8,
@@ -84,16 +94,41 @@ static ALWAYS: [Case; 7] = [
             quiet: 0,
         },
     ),
-    ((COUNTER, "count > 0", ""), NOTHING),
+    (
+        COUNTER,
+        Asked {
+            always: "count > 0",
+            ..ANY
+        },
+        NOTHING,
+    ),
     // What isn't true is wrong, whatever it is.
-    ((COUNTER, "never", ""), NOTHING),
-    ((COUNTER, "count + 1", ""), NOTHING),
+    (
+        COUNTER,
+        Asked {
+            always: "never",
+            ..ANY
+        },
+        NOTHING,
+    ),
+    (
+        COUNTER,
+        Asked {
+            always: "count + 1",
+            ..ANY
+        },
+        NOTHING,
+    ),
 ];
 
-static WITHIN: [Case; 6] = [
+static WITHIN: [Case; 7] = [
     // The states from 0 to 5; the last is looked at.
     (
-        (COUNTER, "", "count < 5"),
+        COUNTER,
+        Asked {
+            within: "count < 5",
+            ..ANY
+        },
         Told {
             verdict: Verdict::Closed,
             states: 6,
@@ -104,7 +139,12 @@ static WITHIN: [Case; 6] = [
         },
     ),
     (
-        (COUNTER, "count <= 5", "count < 5"),
+        COUNTER,
+        Asked {
+            always: "count <= 5",
+            within: "count < 5",
+            ..ANY
+        },
         Told {
             verdict: Verdict::Closed,
             states: 6,
@@ -115,7 +155,12 @@ static WITHIN: [Case; 6] = [
         },
     ),
     (
-        (COUNTER, "count < 5", "count < 5"),
+        COUNTER,
+        Asked {
+            always: "count < 5",
+            within: "count < 5",
+            ..ANY
+        },
         Told {
             verdict: Verdict::Bad(5, Fault::Wrong),
             states: 5,
@@ -127,7 +172,11 @@ static WITHIN: [Case; 6] = [
     ),
     // From 0 to 6, by 1 or 2 from each below 5.
     (
-        (LEAPS, "", "count < 5"),
+        LEAPS,
+        Asked {
+            within: "count < 5",
+            ..ANY
+        },
         Told {
             verdict: Verdict::Closed,
             states: 7,
@@ -137,50 +186,49 @@ static WITHIN: [Case; 6] = [
             quiet: 0,
         },
     ),
-    ((COUNTER, "", "count > 0"), FIRST),
-    ((COUNTER, "", "never"), FIRST),
+    (
+        COUNTER,
+        Asked {
+            within: "count > 0",
+            ..ANY
+        },
+        FIRST,
+    ),
+    (
+        COUNTER,
+        Asked {
+            within: "never",
+            ..ANY
+        },
+        FIRST,
+    ),
+    // Until somebody has had a meal: the states of the philosophers who don't count, and where the
+    // first meal ends.
+    (
+        COUNTING,
+        Asked {
+            within: "(forall p in Philosopher holds meals(p) < 1)",
+            ..ANY
+        },
+        Told {
+            verdict: Verdict::Closed,
+            states: 312,
+            depth: 8,
+            outcomes: 620,
+            widest: 5,
+            quiet: 0,
+        },
+    ),
 ];
-
-/// What is asked with these conditions.
-fn asked(always: &'static str, within: &'static str) -> Asked {
-    Asked {
-        always,
-        within,
-        ..ANY
-    }
-}
 
 #[test]
 fn a_condition_is_looked_at_in_each_state(rt: HostRuntime) -> Result<(), Fail> {
-    for ((text, always, within), expected) in &ALWAYS {
-        let told = told_of(rt.alloc(), text, &asked(always, within))?;
-        assert_eq!(rt; told, *expected, "{always}");
-    }
+    assert_eq!(rt; first_other(rt.alloc(), &ALWAYS)?, None);
     Ok(())
 }
 
 #[test]
 fn runs_are_looked_at_within_a_condition(rt: HostRuntime) -> Result<(), Fail> {
-    for ((text, always, within), expected) in &WITHIN {
-        let told = told_of(rt.alloc(), text, &asked(always, within))?;
-        assert_eq!(rt; told, *expected, "{always} within {within}");
-    }
-    Ok(())
-}
-
-/// Until somebody has had a meal: the states of the philosophers who don't count, and where the
-/// first meal ends.
-#[test]
-fn counted_meals_are_bounded(rt: HostRuntime) -> Result<(), Fail> {
-    let few = asked("", "(forall p in Philosopher holds meals(p) < 1)");
-    let expected = Told {
-        verdict: Verdict::Closed,
-        states: 312,
-        depth: 8,
-        outcomes: 620,
-        widest: 5,
-        quiet: 0,
-    };
-    assert_eq!(rt; told_of(rt.alloc(), COUNTING, &few)?, expected);
+    assert_eq!(rt; first_other(rt.alloc(), &WITHIN)?, None);
     Ok(())
 }

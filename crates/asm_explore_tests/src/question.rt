@@ -136,3 +136,17 @@ pub fn told_of(alloc: Global, text: &str, asked: &Asked) -> Result<Told, Fail> {
     drop(answered);
     Ok(told)
 }
+
+/// A text, what is asked about it, and what is told.
+pub type Case = (&'static str, Asked, Told);
+
+/// The number of the first row of which something else is told, and that.
+pub fn first_other(alloc: Global, rows: &'static [Case]) -> Result<Option<(usize, Told)>, Fail> {
+    for (i, (text, asked, expected)) in rows.iter().enumerate() {
+        let told = told_of(alloc, text, asked)?;
+        if told != *expected {
+            return Ok(Some((i, told)));
+        }
+    }
+    Ok(None)
+}

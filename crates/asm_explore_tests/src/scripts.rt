@@ -87,13 +87,12 @@ fn run_under<R: Threads + Sync + AllocGlobal>(
     Ok((end, out.into_inner()))
 }
 
-/// How the run under the script that is found ends: of its steps, and of one less.
-fn ends<R: Threads + Sync + AllocGlobal>(
+/// How the runs under a found script end: of its steps, and of one less.
+fn ends_of<R: Threads + Sync + AllocGlobal>(
     rt: &R,
     text: &str,
-    asked: &Asked,
+    bad: &BadRun,
 ) -> Result<(End, End), Fail> {
-    let bad = found_run(rt.alloc(), text, asked)?;
     let Ok(steps) = u32::try_from(bad.step) else {
         return Err(Fail::new("it has too many steps"));
     };
@@ -102,11 +101,34 @@ fn ends<R: Threads + Sync + AllocGlobal>(
     Ok((last, before))
 }
 
+/// How those under the script that is found for a text end.
+fn ends<R: Threads + Sync + AllocGlobal>(
+    rt: &R,
+    text: &str,
+    asked: &Asked,
+) -> Result<(End, End), Fail> {
+    let bad = found_run(rt.alloc(), text, asked)?;
+    let ended = ends_of(rt, text, &bad);
+    drop(bad);
+    ended
+}
+
+/// The first text whose runs end otherwise.
+fn first_other<R: Threads + Sync + AllocGlobal>(
+    rt: &R,
+    rows: &'static [Case],
+) -> Result<Option<&'static str>, Fail> {
+    for (text, asked, end) in rows {
+        if ends(rt, text, asked)? != (*end, End::Limit) {
+            return Ok(Some(*text));
+        }
+    }
+    Ok(None)
+}
+
 #[test]
 fn found_scripts_lead_to_faults(rt: HostRuntime) -> Result<(), Fail> {
-    for (text, asked, end) in &SCRIPTS {
-        assert_eq!(rt; ends(&rt, text, asked)?, (*end, End::Limit), "{text}");
-    }
+    assert_eq!(rt; first_other(&rt, &SCRIPTS)?, None);
     Ok(())
 }
 
@@ -114,33 +136,84 @@ fn found_scripts_lead_to_faults(rt: HostRuntime) -> Result<(), Fail> {
 const BOTH_CRITICAL: &[u8] = b"end limit\nstate\nstage(0) = critical\nstage(1) = critical\n\
 flag(0) = true\nflag(1) = true\n";
 
-/// Whether the run of `steps` steps under the script that is found ends in the state in which both
-/// are critical.
-fn ends_critical<R: Threads + Sync + AllocGlobal>(rt: &R, steps: u32) -> Result<bool, Fail> {
-    let bad = found_run(rt.alloc(), MUTEX_WRONG, &BOTH)?;
-    let (_, trace) = run_under(rt, MUTEX_WRONG, bad.script.as_str(), steps)?;
-    Ok(trace.as_slice().ends_with(BOTH_CRITICAL))
-}
-
 /// The end of a trace whose last step changes nothing, and in which nothing can change any more.
 const STUCK_AT_3: &[u8] = b"end limit\nstate\ncount = 3\n";
 
-#[test]
-fn a_found_script_leads_to_a_deadlock(rt: HostRuntime) -> Result<(), Fail> {
-    let bad = found_run(rt.alloc(), LEAPS, &FOUR)?;
-    assert_eq!(rt; bad.step, 3);
-    for steps in 2..5 {
-        let (_, trace) = run_under(&rt, LEAPS, bad.script.as_str(), steps)?;
-        assert!(rt; trace.as_slice().ends_with(STUCK_AT_3), "{steps}");
+/// A text, what is asked about it, the step that goes wrong, an end of traces, and whether the
+/// traces of so many steps have it.
+struct Leading {
+    text: &'static str,
+    asked: Asked,
+    step: u64,
+    end: &'static [u8],
+    traces: &'static [(u32, bool)],
+}
+
+static LEADING: [Leading; 2] = [
+    Leading {
+        text: LEAPS,
+        asked: FOUR,
+        step: 3,
+        end: STUCK_AT_3,
+        traces: &[(1, false), (2, true), (3, true), (4, true)],
+    },
+    Leading {
+        text: MUTEX_WRONG,
+        asked: BOTH,
+        step: 4,
+        end: BOTH_CRITICAL,
+        traces: &[(3, false), (4, true)],
+    },
+];
+
+/// Whether the run of `steps` steps under a script has a trace with this end.
+fn ends_so<R: Threads + Sync + AllocGlobal>(
+    rt: &R,
+    row: &Leading,
+    script: &str,
+    steps: u32,
+) -> Result<bool, RunError> {
+    let (_, trace) = run_under(rt, row.text, script, steps)?;
+    Ok(trace.as_slice().ends_with(row.end))
+}
+
+/// Whether a found script leads as the row says.
+fn leads<R: Threads + Sync + AllocGlobal>(
+    rt: &R,
+    row: &Leading,
+    bad: &BadRun,
+) -> Result<bool, RunError> {
+    for (steps, has_end) in row.traces {
+        if ends_so(rt, row, bad.script.as_str(), *steps)? != *has_end {
+            return Ok(false);
+        }
     }
-    let (_, trace) = run_under(&rt, LEAPS, bad.script.as_str(), 1)?;
-    assert!(rt; !trace.as_slice().ends_with(STUCK_AT_3));
-    Ok(())
+    Ok(bad.step == row.step)
+}
+
+/// Whether the script that is found does.
+fn is_led<R: Threads + Sync + AllocGlobal>(rt: &R, row: &Leading) -> Result<bool, Fail> {
+    let bad = found_run(rt.alloc(), row.text, &row.asked)?;
+    let is_so = leads(rt, row, &bad);
+    drop(bad);
+    Ok(is_so?)
+}
+
+/// The first text whose script leads elsewhere.
+fn first_misled<R: Threads + Sync + AllocGlobal>(
+    rt: &R,
+    rows: &'static [Leading],
+) -> Result<Option<&'static str>, Fail> {
+    for row in rows {
+        if !is_led(rt, row)? {
+            return Ok(Some(row.text));
+        }
+    }
+    Ok(None)
 }
 
 #[test]
-fn a_found_script_leads_to_the_wrong_state(rt: HostRuntime) -> Result<(), Fail> {
-    assert!(rt; ends_critical(&rt, 4)?);
-    assert!(rt; !ends_critical(&rt, 3)?);
+fn found_scripts_lead_to_a_deadlock_and_a_wrong_state(rt: HostRuntime) -> Result<(), Fail> {
+    assert_eq!(rt; first_misled(&rt, &LEADING)?, None);
     Ok(())
 }
