@@ -81,7 +81,10 @@ def carry_crate(tree, old_tree, name, identity):
     for it in same:
         function, goal = record.tried[it.name][1:]
         tried[it.name] = [it.digest, function, goal_now(crate, function, goal)]
-    Record(name, identity, tree.digest(name), tried, tried).write(tree.root)
+    digest = tree.digest(name)
+    # What was tried on these very sources wasn't carried over.
+    carried = record.carried & tried.keys() if record.sources == digest else tried
+    Record(name, identity, digest, tried, carried).write(tree.root)
     return [it.name for it in crate.edits if it.name not in tried]
 
 

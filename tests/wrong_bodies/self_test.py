@@ -180,6 +180,11 @@ def carried(test):
     test.expect_run("and is stale", ["--stale"], 1, f"not refused: {OTHER}\n")
     test.expect_run("a commit that isn't there", ["--carry", "nowhere"], 2, "no commit")
     test.write(source, text)
+    test.put("one_more", *EDITS[OTHER])
+    test.expect_run("one more is left to try", ["--carry", "HEAD"], 0, "tried: one_more\n")
+    found = record_of(test.root, CRATE)[0]
+    test.expect("what was tried on these sources wasn't carried", not found.carried)
+    test.take("one_more")
 
 
 # A source of a crate below, and what changes in it.
