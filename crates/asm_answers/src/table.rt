@@ -51,6 +51,27 @@ impl<'a> Case<'a> {
     }
 }
 
+/// Whether what is found for a case is what is expected; if it isn't, writes the case, with its
+/// number.
+fn is_as_expected<R: Threads + Sync, W: Write>(
+    rt: &R,
+    alloc: Global,
+    case: &Case<'_>,
+    number: u64,
+    out: &mut W,
+) -> io::Result<bool> {
+    let (wanted, found) = case.answers(rt, alloc)?;
+    if wanted == found {
+        return Ok(true);
+    }
+    let header = case.wanted;
+    writeln!(
+        out,
+        "case {number}, {header}: {wanted} expected, {found} found"
+    )?;
+    Ok(false)
+}
+
 /// Writes each case of the table for which something else is found than is expected, and how many
 /// there are of both.
 pub fn compare<R: Threads + Sync, W: Write>(
@@ -69,17 +90,11 @@ pub fn compare<R: Threads + Sync, W: Write>(
         if case.wanted == "note" {
             continue;
         }
-        let (wanted, found) = case.answers(rt, alloc)?;
-        if wanted == found {
+        let number = counts.as_expected.saturating_add(counts.others);
+        if is_as_expected(rt, alloc, &case, number.saturating_add(1), out)? {
             counts.as_expected = counts.as_expected.saturating_add(1);
         } else {
             counts.others = counts.others.saturating_add(1);
-            let number = counts.as_expected.saturating_add(counts.others);
-            let header = case.wanted;
-            writeln!(
-                out,
-                "case {number}, {header}: {wanted} expected, {found} found"
-            )?;
         }
     }
     let Counts {

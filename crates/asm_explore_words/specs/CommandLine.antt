@@ -1,11 +1,11 @@
 -- Definition. The words after a command, in the terms of the library that reads them.
 --     command, refusals words           after `all`: it has a version; its arguments: the text's
---                                       file, an option for each limit and condition, and two
---                                       flags. The kinds of what is wrong with the words, none if
---                                       they are taken
+--                                       file, an option for each limit and condition and for the
+--                                       graph's file, and two flags. The kinds of what is wrong
+--                                       with the words, none if they are taken
 --     random_command, random_refusals words
 --                                       after `random`: the text's file, an option for each limit
---                                       and condition, and two flags
+--                                       and condition and for the seed, and two flags
 --     run_command, run_refusals words   after `choices` and `clash`: the text's file, and an option
 --                                       for each limit and for the script's file
 use Rattle.std.specs.Prelude.{ℕ, true, List, [], ◌∷◌, Some, codes}

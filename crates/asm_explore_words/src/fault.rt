@@ -1,6 +1,7 @@
 //! Why the program ends without a report.
 ghost use Rattle.std.specs.Prelude.{◌≡◌};
 ghost use Rattle.asm_explore_words.specs.Faults.{status_of_fault};
+ghost use Rattle.asm_explore_words.specs.declared.fault.Fault.TheVariants.{Memory};
 
 use asm_check::CheckError;
 use asm_reader::{ReadError, ScriptError};
@@ -88,12 +89,16 @@ impl Fault<'_> {
 }
 
 impl<'w> From<AllocError> for Fault<'w> {
+    ghost from_gives = { λ _ fault. fault ≡ Memory };
+
     fn from(_error: AllocError) -> Fault<'w> {
         Fault::Memory
     }
 }
 
 impl<'w, T: Drop> From<AllocFailed<T>> for Fault<'w> {
+    ghost from_gives = { λ _ fault. fault ≡ Memory };
+
     fn from(_error: AllocFailed<T>) -> Fault<'w> {
         Fault::Memory
     }

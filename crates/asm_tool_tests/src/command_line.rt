@@ -5,6 +5,7 @@ use asm_tool::fault::Fault;
 use asm_tool::output::Through;
 use asm_tool::settings::{Settings, WordFault};
 use asm_tool::status::refusal;
+use std::alloc::Global;
 use std::io;
 
 #[test]
@@ -56,14 +57,17 @@ fn each_word_is_read(rt: HostRuntime) -> Result<(), WordFault> {
     Ok(())
 }
 
+/// Whether words that can't be had for such an error are refused with this status and this line.
+fn are_refused(alloc: Global, error: io::ErrorKind, status: u8, wanted: &[u8]) -> bool {
+    let mut line = Vec::new(alloc);
+    let fault = Fault::of_words(&io::Error::from(error));
+    let found = refusal(&fault, &mut Through::new(&mut line));
+    found == status && line.as_slice() == wanted
+}
+
 #[test]
 fn words_that_are_no_text(rt: HostRuntime) {
-    let mut line = Vec::new(rt.alloc());
-    let not_text = Fault::of_words(&io::Error::from(io::ErrorKind::InvalidData));
-    assert_eq!(rt; refusal(&not_text, &mut Through::new(&mut line)), 4);
-    assert_eq!(rt; line.as_slice(), b"error: a word is not UTF-8\n".as_slice());
-    let mut line = Vec::new(rt.alloc());
-    let no_memory = Fault::of_words(&io::Error::from(io::ErrorKind::OutOfMemory));
-    assert_eq!(rt; refusal(&no_memory, &mut Through::new(&mut line)), 3);
-    assert_eq!(rt; line.as_slice(), b"memory\n".as_slice());
+    let (not_text, no_memory) = (io::ErrorKind::InvalidData, io::ErrorKind::OutOfMemory);
+    assert!(rt; are_refused(rt.alloc(), not_text, 4, b"error: a word is not UTF-8\n"));
+    assert!(rt; are_refused(rt.alloc(), no_memory, 3, b"memory\n"));
 }

@@ -107,9 +107,10 @@ fn picks_meet(rt: HostRuntime) -> Result<(), Fail> {
         meeting: Meeting::new(),
         elsewhere: AtomicU64::new(0),
     };
-    let outcome = outcome_of(&rt, &checked, &picks)?;
+    let outcome = outcome_of(&rt, &checked, &picks);
+    drop(checked);
+    assert!(rt; is_set(outcome?, 0, &RED_TWICE));
     assert!(rt; picks.meeting.happened_once());
     assert!(rt; picks.elsewhere.load(Ordering::SeqCst) == 0);
-    assert!(rt; is_set(outcome, 0, &RED_TWICE));
     Ok(())
 }

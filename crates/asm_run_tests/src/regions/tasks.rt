@@ -157,12 +157,15 @@ const TWO_TO_FIVE: [Entry; 1] = [(0, TWO, FIVE)];
 fn job_puts(rt: HostRuntime) -> Result<(), Fail> {
     let checked = checked_of(rt.alloc(), SWAP.as_bytes())?;
     let two = value(TWO).code();
-    match put_initially(rt.alloc(), &checked)? {
+    let put = put_initially(rt.alloc(), &checked);
+    drop(checked);
+    let is_right = match put? {
         Some((met, set)) => {
-            assert!(rt; met.low_before == two && met.high_before == two);
-            assert!(rt; has_entries(&set, &TWO_TO_FIVE));
+            let met_two = met.low_before == two && met.high_before == two;
+            met_two && has_entries(&set, &TWO_TO_FIVE)
         }
-        None => assert!(rt; false),
-    }
+        None => false,
+    };
+    assert!(rt; is_right);
     Ok(())
 }

@@ -80,13 +80,23 @@ fn before(alloc: Global, count: usize) -> Result<Forming, AllocError>
 
 /// What that region comes to in the initial state, by two workers, with a set before.
 fn formed_by_two<R: Threads + Sync + AllocGlobal>(rt: &R) -> Result<Forming, Fail> {
+    let checked = specification(rt.alloc(), REGION)?;
+    let made = formed_initially(rt, &checked);
+    drop(checked);
+    made
+}
+
+/// The same of the region that is the main rule.
+fn formed_initially<R: Threads + Sync + AllocGlobal>(
+    rt: &R,
+    checked: &Checked,
+) -> Result<Forming, Fail> {
     let limits = LIMITS;
     if !limits.are_in_range() {
         return Err(Fail::new("a limit is out of its range"));
     }
     let alloc = rt.alloc();
-    let checked = specification(alloc, REGION)?;
-    let beginning = Beginning::of(alloc, &checked)?;
+    let beginning = Beginning::of(alloc, checked)?;
     let view = beginning.view();
     let before = before(alloc, view.signature.count())?;
     let picks = Counting::new();
@@ -95,7 +105,7 @@ fn formed_by_two<R: Threads + Sync + AllocGlobal>(rt: &R) -> Result<Forming, Fai
         step: 1,
     };
     let pooled = Pooled::new(rt, &limits, &NoGate);
-    match formed(alloc, &pooled, &checked, &view, &choices, before) {
+    match formed(alloc, &pooled, checked, &view, &choices, before) {
         Ok(made) => Ok(made),
         Err(_) => Err(Fail::new("the region is exhausted, or memory ran out")),
     }
