@@ -2,6 +2,8 @@
 use crate::shown::{COUNTER, THREE_STEPS, WORDS, status_by};
 use std::io;
 use std::io::Write;
+use std::rt::Files;
+use std::thread::Threads;
 
 /// Takes nothing at all.
 #[derive(Drop)]
@@ -109,7 +111,11 @@ fn a_line_that_cannot_be_written_changes_nothing(rt: HostRuntime) {
 }
 
 /// Whether a trace of which this many bytes are taken is written so far, and then told so.
-fn breaks_off(rt: &HostRuntime, length: usize, refusal: Option<io::ErrorKind>) -> bool {
+fn breaks_off<R: Threads + Sync + Files + AllocGlobal>(
+    rt: &R,
+    length: usize,
+    refusal: Option<io::ErrorKind>,
+) -> bool {
     let mut out = Narrow::new(length, refusal);
     let mut line = Vec::new(rt.alloc());
     let status = status_by(rt, WORDS.as_slice(), COUNTER, &mut out, &mut line);
