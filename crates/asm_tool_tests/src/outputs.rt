@@ -110,7 +110,8 @@ fn a_line_that_cannot_be_written_changes_nothing(rt: HostRuntime) {
     assert_eq!(rt; trace.len(), 0);
 }
 
-/// Whether a trace of which this many bytes are taken is written so far, and then told so.
+/// Whether an output that takes this many bytes gets just the trace's first ones, and the status
+/// and the line say that it failed.
 fn breaks_off<R: Threads + Sync + Files + AllocGlobal>(
     rt: &R,
     length: usize,

@@ -86,7 +86,7 @@ fn formed_by_two<R: Threads + Sync + AllocGlobal>(rt: &R) -> Result<Forming, Fai
     made
 }
 
-/// The same of the region that is the main rule.
+/// That of a specification whose main rule is that region.
 fn formed_initially<R: Threads + Sync + AllocGlobal>(
     rt: &R,
     checked: &Checked,
