@@ -1,12 +1,2 @@
-mod AndLinks
-mod BetweenLines
 mod FilesInTurn
-mod JoinedTerms
-mod PrintedScripts
-mod RunMore
-mod RunTold
-mod SkippedLines
-mod WordsOfRuns
-mod TraceText
-mod BareViews
-mod WholeLines
+mod InputOnce

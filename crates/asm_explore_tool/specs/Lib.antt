@@ -1,13 +1,2 @@
-pub mod Outputs
-pub mod CheckedQuestions
-pub mod Commented
-pub mod Comments
-pub mod RunEnds
-pub mod FirstLine
 pub mod GivenTexts
-pub mod RandomReport
-pub mod Replay
-pub mod Report
-pub mod RunReport
-pub mod TraceLines
-pub mod FaultWords
+pub mod Outputs

@@ -12,13 +12,13 @@ use Rattle.clap.specs.Walk.{Text, texts}
 use Rattle.asm_explore_words.specs.CommandLine.{random_refusals, refusals}
 use Rattle.asm_explore_texts.specs.Conditions.{texts_of}
 use Rattle.asm_explore_tool.specs.GivenTexts.{AreAlwaysGiven, AreGiven, AreRunTexts, IsText}
-use Rattle.asm_explore_tool.specs.RandomReport.{IsRandomReported}
-use Rattle.asm_explore_tool.specs.Report.{IsReported}
-use Rattle.asm_explore_tool.specs.RunReport.{AreChoicesReported, IsClashReported}
+use Rattle.asm_explore_random.specs.RandomReport.{IsRandomReported}
+use Rattle.asm_explore_all.specs.AllReport.{IsReported}
+use Rattle.asm_explore_run.specs.RunReport.{AreChoicesReported, IsClashReported}
 use Rattle.asm_explore_words.specs.WordsSaid.{AreRunTaken, AreSaidBehind, IsOfRun}
 use Rattle.asm_explore_texts.specs.declared.conditions.Condition.{Condition}
 use Rattle.asm_explore_texts.specs.declared.conditions.Conditions.{Conditions}
-use Rattle.asm_explore_tool.specs.declared.report.Report.{Report}
+use Rattle.asm_explore_report.specs.declared.report.Report.{Report}
 use Rattle.asm_explore_words.specs.declared.settings.RandomSettings.{RandomSettings}
 use Rattle.asm_explore_words.specs.declared.settings.RunSettings.{RunSettings}
 use Rattle.asm_explore_words.specs.declared.settings.Settings.{Settings}

@@ -1,19 +1,10 @@
-//! Files that are read, and files that are made.
+//! The files that the program reads, and those that it makes.
 ghost use Rattle.std.specs.Prelude.{None};
 
+use asm_explore_all::files::NewFiles;
 use asm_tool::folder::Folder;
-use std::io::Write;
 use std::rt::Files;
 use std::{fs, io};
-
-/// Makes files.
-pub trait NewFiles {
-    /// A file that is made.
-    type New: Write + Drop;
-
-    /// An empty file of this name. What a file of this name had is gone.
-    fn create(&self, name: &str) -> io::Result<Self::New>;
-}
 
 /// The files of the system. Nothing is known of them.
 #[derive(Drop)]

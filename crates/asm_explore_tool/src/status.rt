@@ -1,31 +1,24 @@
 //! The program over any reader and writers, and the status that it ends with.
-ghost use Rattle.std.specs.Prelude.{◌≡◌, ◌≢◌, ◌<◌, ◌≤◌, false, map, IfOk, OnOk};
+ghost use Rattle.std.specs.Prelude.{◌≡◌, ◌≢◌, false, map, IfOk, OnOk};
 ghost use Rattle.std.specs.Io.KnownBytes.{Appends};
-ghost use Rattle.asm_explore_tool.specs.CheckedQuestions.{IsAsked};
 ghost use Rattle.asm_explore_tool.specs.Outputs.{OutputsAll, OutputsRandom, OutputsRun, OutputsTask, AreTaken, IsOutput};
 ghost use Rattle.asm_explore_words.specs.Faults.{IsOfWords, status_of_fault};
-ghost use Rattle.asm_explore_tool.specs.Report.{IsReported};
-ghost use Rattle.asm_explore_tool.specs.RunReport.{AreChoicesReported, IsClashReported};
+ghost use Rattle.asm_explore_run.specs.RunReport.{AreChoicesReported, IsClashReported};
 ghost use Rattle.asm_explore_words.specs.WordsSaid.{reads_input_twice, reads_task_twice};
 
-use crate::checked_question::{CheckedQuestion, ask};
-use crate::choices_report::choices_report;
-use crate::clash_report::clash_report;
 use crate::explain::explain;
-use crate::files::NewFiles;
 use crate::given_texts::{always_given, conditions, text};
-use crate::graph_file::draw;
 use crate::progress_lines::ProgressLines;
-use crate::random_report::random_report;
-use crate::report::{Report, reported};
 use crate::run_texts::run_texts;
 use asm_explore::{Progress, Watch};
-use asm_explore_texts::conditions::Conditions;
+use asm_explore_all::all_report::all_report;
+use asm_explore_all::files::NewFiles;
+use asm_explore_random::random_report::random_report;
+use asm_explore_run::choices_report::choices_report;
+use asm_explore_run::clash_report::clash_report;
 use asm_explore_words::command_line::settings;
 use asm_explore_words::fault::{Fault, Source};
 use asm_explore_words::settings::{RandomSettings, RunSettings, Settings, Task};
-use asm_explore_workers::explore_all_by;
-use asm_limits::run_limits::WORKERS;
 use asm_random::RandomProgress;
 use asm_run::sink::Sink;
 use asm_tool::fault::Fault as ToolFault;
@@ -190,15 +183,8 @@ fn do_all<
     let spec = settings.spec;
     let text = text(folder, alloc, Source::Specification(spec), spec, input)?;
     let conditions = conditions(folder, alloc, settings)?;
-    let report = explored(
-        rt,
-        folder,
-        alloc,
-        text.as_slice(),
-        &conditions,
-        settings,
-        watch,
-    )?;
+    let text = text.as_slice();
+    let report = all_report(rt, folder, alloc, text, &conditions, settings, watch)?;
     written(out, report.text.as_slice())?;
     Ok(report.status)
 }
@@ -270,56 +256,4 @@ fn written<'w, O: Write>(out: &mut O, text: &[u8]) -> Result<(), Fault<'w>>
         Ok(()) => Ok(()),
         Err(_) => Err(Fault::Write),
     }
-}
-
-/// As many workers as the settings ask for, or as near to it as there may be.
-fn workers_of(settings: &Settings<'_>) -> usize
-    ensures { (0 < result) × (result ≤ 32) }
-{
-    match settings.workers {
-        0 => 1,
-        workers if workers > WORKERS.bounds.most => WORKERS.bounds.most as usize,
-        workers => workers as usize,
-    }
-}
-
-/// What is printed of the result for what is asked of a specification, and the status of that.
-fn all_report<'w, R: Threads + Sync, F: NewFiles, W: Watch<Progress>>(
-    rt: &R,
-    files: &F,
-    alloc: Global,
-    text: &[u8],
-    asked: &CheckedQuestion,
-    conditions: &Conditions<'w>,
-    settings: &Settings<'w>,
-    watch: &mut W,
-) -> Result<Report, Fault<'w>>
-    requires asked { IsAsked text.now conditions.now settings.now asked.now }
-    ensures { IfOk result (IsReported text.now conditions.now settings.now) }
-{
-    let workers = workers_of(settings);
-    let (checked, question) = (&asked.checked, &asked.question);
-    let answered = explore_all_by(rt, alloc, checked, question, workers, watch)?;
-    let drawing = draw(files, alloc, asked, settings.dot)?;
-    reported(
-        rt, alloc, text, asked, conditions, settings, &answered, drawing,
-    )
-}
-
-/// What is printed of the specification with this text, and the status of that.
-fn explored<'w, R: Threads + Sync, F: NewFiles, W: Watch<Progress>>(
-    rt: &R,
-    files: &F,
-    alloc: Global,
-    text: &[u8],
-    conditions: &Conditions<'w>,
-    settings: &Settings<'w>,
-    watch: &mut W,
-) -> Result<Report, Fault<'w>>
-    ensures { IfOk result (IsReported text.now conditions.now settings.now) }
-{
-    let asked = ask(alloc, text, conditions, settings)?;
-    let report = all_report(rt, files, alloc, text, &asked, conditions, settings, watch);
-    drop(asked);
-    report
 }

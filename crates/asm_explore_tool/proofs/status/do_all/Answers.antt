@@ -1,5 +1,5 @@
 use Rattle.std.proofs.Common.{refl, subst}
-use Rattle.asm_explore_tool.specs.Report.{IsReported}
+use Rattle.asm_explore_all.specs.AllReport.{IsReported}
 use Rattle.std.specs.Io.KnownBytes.{Appends}
 use Rattle.asm_explore_tool.proofs.status.do_all.Goals as goal
 

@@ -1,6 +1,6 @@
 use Rattle.std.proofs.Common.{refl, subst}
 use Rattle.std.specs.Io.KnownBytes.{Appends}
-use Rattle.asm_explore_tool.specs.RunReport.{AreChoicesReported}
+use Rattle.asm_explore_run.specs.RunReport.{AreChoicesReported}
 use Rattle.asm_explore_tool.proofs.status.do_choices.Goals as goal
 
 pub returns : goal.returns

@@ -1,6 +1,6 @@
 use Rattle.std.proofs.Common.{map}
 use Rattle.std.proofs.lemmas.Result.{IfOk-weaker}
-use Rattle.asm_explore_tool.proofs.RunTold.{never_twice}
+use Rattle.asm_explore_tool.proofs.InputOnce.{never_twice}
 use Rattle.asm_explore_tool.proofs.status.do_command.Goals as goal
 
 pub do_task-requires : goal.do_task-requires

@@ -3,7 +3,7 @@ use Rattle.std.specs.Io.KnownBytes.{Appends}
 use Rattle.clap.specs.Walk.{texts}
 use Rattle.asm_explore_texts.specs.Conditions.{texts_of}
 use Rattle.asm_explore_tool.specs.GivenTexts.{AreAlwaysGiven}
-use Rattle.asm_explore_tool.specs.RandomReport.{IsRandomReported}
+use Rattle.asm_explore_random.specs.RandomReport.{IsRandomReported}
 use Rattle.asm_explore_tool.proofs.status.do_random.Goals as goal
 
 pub returns : goal.returns

@@ -1,0 +1,89 @@
+-- Definition. The lines behind the first of a report of all runs.
+--     condition_lines conditions      the conditions
+--     all_looked_for conditions       which faults are looked for
+--     count_lines answer              states, steps, depth, the widest step, and quiet states
+--     IsCrowd finding lines           of a step with too many outcomes, how many there are beside
+--                                     how many others; where that is is left free
+--     graph_note                      the line for a graph that isn't written
+--     AreFacts                        all of them, in order
+use Rattle.std.specs.Prelude.{◌≡◌, ◌⊎◌, ℕ, List, [], ◌∷◌, ◌++◌, length, Option, Some, None, codes, decimal}
+use Rattle.asm_explore.specs.declared.exploration_result.ExplorationResult.{ExplorationResult}
+use Rattle.asm_explore.specs.declared.exploration_result.Finding.{Finding}
+use Rattle.asm_explore.specs.declared.exploration_result.Finding.TheVariants as finding
+use Rattle.asm_explore_texts.specs.Conditions.{text_of, texts_of}
+use Rattle.asm_explore_texts.specs.declared.conditions.Conditions.{Conditions}
+use Rattle.asm_explore_words.specs.declared.settings.Settings.{Settings}
+use Rattle.asm_explore_report.specs.Commands.{command}
+use Rattle.asm_explore_report.specs.Facts.{always_lines, condition_line, looked_for}
+use Rattle.asm_explore_report.specs.ShownRuns.{Shown, first_state, shown_bad}
+
+-- ---- conditions
+
+abbrev pub optional_line : (name : List ℕ) → Option (List ℕ) → List (List ℕ)
+optional_line name None = []
+optional_line name (Some text) = condition_line name text ∷ []
+
+abbrev pub condition_lines : Conditions → List (List ℕ)
+condition_lines conditions =
+    always_lines (texts_of conditions.always.items)
+    ++ (optional_line (codes "deadlock unless") (text_of conditions.when_quiet) ++ optional_line (codes "within") (text_of conditions.within))
+
+abbrev pub deadlock_words : Option (List ℕ) → List ℕ
+deadlock_words None = []
+deadlock_words (Some text) = codes ", deadlock"
+
+abbrev pub all_looked_for : Conditions → List ℕ
+all_looked_for conditions = looked_for (length conditions.always.items) ++ deadlock_words (text_of conditions.when_quiet)
+
+-- ---- numbers
+
+abbrev pub count_line : (name : List ℕ) → ℕ → List ℕ
+count_line name count = name ++ (codes " " ++ decimal count)
+
+abbrev pub count_lines : ExplorationResult → List (List ℕ)
+count_lines answer =
+    count_line (codes "states") answer.states ∷ count_line (codes "steps") answer.outcomes ∷ count_line (codes "depth") answer.depth
+    ∷ count_line (codes "widest") answer.widest ∷ count_line (codes "quiet") answer.quiet ∷ []
+
+pub record IsCrowdLine (first others : ℕ) (line : List ℕ) : Type 0 where
+  pub place : List ℕ
+  pub is : line ≡ codes "too many outcomes at " ++ (place ++ (codes ": " ++ (decimal first ++ (codes " beside " ++ decimal others))))
+
+abbrev pub IsCrowd : Finding → (lines : List (List ℕ)) → Type 0
+IsCrowd (finding.TooManyOutcomes depth crowd) lines = (line : List ℕ) × IsCrowdLine crowd.first crowd.others line × (lines ≡ line ∷ [])
+IsCrowd finding.Closed lines = lines ≡ []
+IsCrowd (finding.SafeTo depth) lines = lines ≡ []
+IsCrowd (finding.BadStep bad) lines = lines ≡ []
+IsCrowd finding.WrongFirst lines = lines ≡ []
+IsCrowd (finding.TooManyStates depth) lines = lines ≡ []
+IsCrowd (finding.NoMemory depth) lines = lines ≡ []
+IsCrowd (finding.Unwritten unwritten) lines = lines ≡ []
+
+-- ---- the run that is shown, and how it is made
+
+abbrev pub shown_in : Finding → Option Shown
+shown_in (finding.BadStep bad) = Some (shown_bad bad)
+shown_in finding.WrongFirst = Some first_state
+shown_in finding.Closed = None
+shown_in (finding.SafeTo depth) = None
+shown_in (finding.TooManyStates depth) = None
+shown_in (finding.TooManyOutcomes depth crowd) = None
+shown_in (finding.NoMemory depth) = None
+shown_in (finding.Unwritten unwritten) = None
+
+abbrev pub command_lines : (turns : ℕ) → (name : List ℕ) → Option Shown → List (List ℕ)
+command_lines turns name None = []
+command_lines turns name (Some run) = command run.1 turns name ∷ []
+
+-- ---- all of them
+
+abbrev pub graph_note : List ℕ
+graph_note = codes "no graph is written: more than 2000 states"
+
+pub record AreFacts (conditions : Conditions) (settings : Settings) (answer : ExplorationResult) (lines : List (List ℕ)) : Type 0 where
+  pub crowd : List (List ℕ)
+  pub is_crowd : IsCrowd answer.finding crowd
+  pub graph : List (List ℕ)
+  pub is_graph : (graph ≡ []) ⊎ (graph ≡ graph_note ∷ [])
+  pub are :
+      lines ≡ crowd ++ (condition_lines conditions ++ (all_looked_for conditions ∷ (count_lines answer ++ (graph ++ command_lines settings.turns settings.spec.now (shown_in answer.finding)))))

@@ -1,0 +1,58 @@
+-- Definition. What is printed of an exploration of all runs.
+--     status_of finding             the status
+--     WordsTell                     the words are of the fault that is found
+--     IsReport                      the first comment says what is found, the others are the facts,
+--                                   and the script is that of the run that is found
+--     IsReported                    what is printed says what is found of the specification with
+--                                   this text
+use Rattle.std.specs.Prelude.{◌≡◌, ℕ, List, ⊤}
+use Rattle.asm_state.specs.declared.operation.Op.{Op}
+use Rattle.asm_syntax.specs.code.Views.{spec_of}
+use Rattle.asm_syntax.specs.declared.term.Term.{Term}
+use Rattle.asm_check.specs.declared.checked.Checked.{Checked}
+use Rattle.asm_meaning.specs.Declarations.{specification_of}
+use Rattle.asm_explore.specs.declared.exploration_result.ExplorationResult.{ExplorationResult}
+use Rattle.asm_explore.specs.declared.exploration_result.Finding.{Finding}
+use Rattle.asm_explore.specs.declared.exploration_result.Finding.TheVariants as finding
+use Rattle.asm_explore_texts.specs.declared.conditions.Conditions.{Conditions}
+use Rattle.asm_explore_words.specs.declared.settings.Settings.{Settings}
+use Rattle.asm_explore_report.specs.FaultWords.{BadTells, IsBroken}
+use Rattle.asm_explore_report.specs.Printed.{IsPrinted}
+use Rattle.asm_explore_report.specs.declared.report.Report.{Report}
+use Rattle.asm_explore_all.specs.AllFacts.{AreFacts, shown_in}
+use Rattle.asm_explore_all.specs.CheckedQuestions.{IsExplored}
+use Rattle.asm_explore_all.specs.FindingLine.{first_line}
+
+abbrev pub status_of : Finding → ℕ
+status_of finding.Closed = 0
+status_of (finding.SafeTo depth) = 0
+status_of (finding.BadStep bad) = 1
+status_of finding.WrongFirst = 1
+status_of (finding.Unwritten unwritten) = 1
+status_of (finding.TooManyStates depth) = 5
+status_of (finding.TooManyOutcomes depth crowd) = 5
+status_of (finding.NoMemory depth) = 5
+
+abbrev pub WordsTell : Checked → List (Op × Term) → (turns : ℕ) → Finding → (words : List ℕ) → Type 0
+WordsTell checked links turns (finding.BadStep bad) words = BadTells checked links turns bad words
+WordsTell checked links turns finding.WrongFirst words = IsBroken checked links (specification_of (spec_of checked.spec)).initial words
+WordsTell checked links turns finding.Closed words = ⊤
+WordsTell checked links turns (finding.SafeTo depth) words = ⊤
+WordsTell checked links turns (finding.TooManyStates depth) words = ⊤
+WordsTell checked links turns (finding.TooManyOutcomes depth crowd) words = ⊤
+WordsTell checked links turns (finding.NoMemory depth) words = ⊤
+WordsTell checked links turns (finding.Unwritten unwritten) words = ⊤
+
+module _ (text : List ℕ) (conditions : Conditions) (settings : Settings) where
+  pub record IsReport (checked : Checked) (links : List (Op × Term)) (turns : ℕ) (answer : ExplorationResult) (printed : List ℕ) : Type 0 where
+    pub words : List ℕ
+    pub tell : WordsTell checked links turns answer.finding words
+    pub facts : List (List ℕ)
+    pub are_facts : AreFacts conditions settings answer facts
+    pub are_printed : IsPrinted text turns settings.trace (first_line answer.finding words) facts (shown_in answer.finding) printed
+
+  pub record IsReported (report : Report) : Type 0 where
+    pub answer : ExplorationResult
+    pub explored : IsExplored text conditions settings answer
+    pub status : report.status ≡ status_of answer.finding
+    pub printed : IsReport explored.asked.checked explored.is_asked.always.links explored.asked.question.turns answer report.text.items

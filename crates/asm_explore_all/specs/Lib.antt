@@ -1,0 +1,4 @@
+pub mod AllFacts
+pub mod AllReport
+pub mod CheckedQuestions
+pub mod FindingLine

@@ -1,0 +1,151 @@
+//! What is printed of an exploration of all runs.
+ghost use Rattle.std.specs.Prelude.{◌≡◌, ◌<◌, ◌≤◌, List, IfOk};
+ghost use Rattle.asm_state.specs.declared.operation.Op.{Op};
+ghost use Rattle.asm_syntax.specs.declared.term.Term.{Term as Code};
+ghost use Rattle.asm_explore_texts.specs.Conditions.{IsJoined};
+ghost use Rattle.asm_explore_all.specs.AllReport.{IsReport, IsReported, WordsTell, status_of as found_status};
+ghost use Rattle.asm_explore_all.specs.CheckedQuestions.{IsAsked};
+
+use crate::checked_question::{CheckedQuestion, ask};
+use crate::facts::{facts, shown_run};
+use crate::files::NewFiles;
+use crate::finding_line::finding_line;
+use crate::graph_file::{GraphFile, draw};
+use asm_explore::{ExplorationResult, Finding, Progress, Watch};
+use asm_explore_report::fault_words::{Subject, UNWRITTEN, bad_words, first_words};
+use asm_explore_report::printed::printed;
+use asm_explore_report::report::Report;
+use asm_explore_texts::conditions::Conditions;
+use asm_explore_words::fault::Fault;
+use asm_explore_words::settings::Settings;
+use asm_explore_workers::explore_all_by;
+use asm_limits::run_limits::WORKERS;
+use std::alloc::Global;
+use std::thread::Threads;
+
+/// The status of what is found.
+fn status_of(finding: &Finding) -> u8
+    ensures { result ≡ found_status finding.now }
+{
+    match finding {
+        Finding::Closed | Finding::SafeTo(_) => 0,
+        Finding::BadStep(_) | Finding::WrongFirst | Finding::Unwritten(_) => 1,
+        Finding::TooManyStates(_) | Finding::TooManyOutcomes { .. } | Finding::NoMemory(_) => 5,
+    }
+}
+
+/// The words for the fault that is found, if there is one.
+fn words_of<'w, R: Threads + Sync>(
+    rt: &R,
+    alloc: Global,
+    text: &[u8],
+    subject: &Subject<'_>,
+    finding: &Finding,
+) -> Result<Vec<u8>, Fault<'w>>
+    ensures { (links : List (Op × Code)) → IsJoined links subject.now.always.now →
+        IfOk result (λ words. WordsTell subject.now.checked.now links subject.now.turns finding.now words.items) }
+{
+    match finding {
+        Finding::BadStep(bad) => bad_words(rt, alloc, text, subject, bad),
+        Finding::WrongFirst => first_words(alloc, subject),
+        Finding::Unwritten(_) => Ok(Vec::from_slice(alloc, UNWRITTEN)?),
+        Finding::Closed
+        | Finding::SafeTo(_)
+        | Finding::TooManyStates(_)
+        | Finding::TooManyOutcomes { .. }
+        | Finding::NoMemory(_) => Ok(Vec::new(alloc)),
+    }
+}
+
+/// What is printed of a result for what was asked of the specification with this text.
+fn printed_of<'w, R: Threads + Sync>(
+    rt: &R,
+    alloc: Global,
+    text: &[u8],
+    asked: &CheckedQuestion,
+    conditions: &Conditions<'w>,
+    settings: &Settings<'w>,
+    answered: &ExplorationResult,
+    drawing: GraphFile,
+) -> Result<Vec<u8>, Fault<'w>>
+    ensures { (links : List (Op × Code)) → IsJoined links asked.now.question.always →
+        IfOk result (λ whole. IsReport text.now conditions.now settings.now asked.now.checked links asked.now.question.turns answered.now whole.items) }
+{
+    let (checked, finding) = (&asked.checked, &answered.finding);
+    let subject = Subject {
+        checked,
+        always: &asked.question.always,
+        turns: asked.question.turns,
+    };
+    let words = words_of(rt, alloc, text, &subject, finding)?;
+    let first = finding_line(alloc, finding, words.as_slice())?;
+    let facts = facts(
+        alloc, text, checked, conditions, settings, answered, drawing,
+    )?;
+    let whole = printed(
+        rt,
+        alloc,
+        text,
+        subject.turns,
+        settings.trace,
+        first.as_slice(),
+        facts.as_slice(),
+        shown_run(finding),
+    )?;
+    Ok(whole)
+}
+
+/// As many workers as the settings ask for, or as near to it as there may be.
+fn workers_of(settings: &Settings<'_>) -> usize
+    ensures { (0 < result) × (result ≤ 32) }
+{
+    match settings.workers {
+        0 => 1,
+        workers if workers > WORKERS.bounds.most => WORKERS.bounds.most as usize,
+        workers => workers as usize,
+    }
+}
+
+/// What is printed of the result for what is asked of a specification, and the status of that.
+fn reported<'w, R: Threads + Sync, F: NewFiles, W: Watch<Progress>>(
+    rt: &R,
+    files: &F,
+    alloc: Global,
+    text: &[u8],
+    asked: &CheckedQuestion,
+    conditions: &Conditions<'w>,
+    settings: &Settings<'w>,
+    watch: &mut W,
+) -> Result<Report, Fault<'w>>
+    requires asked { IsAsked text.now conditions.now settings.now asked.now }
+    ensures { IfOk result (IsReported text.now conditions.now settings.now) }
+{
+    let workers = workers_of(settings);
+    let (checked, question) = (&asked.checked, &asked.question);
+    let answered = explore_all_by(rt, alloc, checked, question, workers, watch)?;
+    let drawing = draw(files, alloc, asked, settings.dot)?;
+    let text = printed_of(
+        rt, alloc, text, asked, conditions, settings, &answered, drawing,
+    )?;
+    let status = status_of(&answered.finding);
+    Ok(Report { text, status })
+}
+
+/// What is printed of the specification with this text, and the status of that. The graph of states
+/// is written to its file before, if one is named.
+pub fn all_report<'w, R: Threads + Sync, F: NewFiles, W: Watch<Progress>>(
+    rt: &R,
+    files: &F,
+    alloc: Global,
+    text: &[u8],
+    conditions: &Conditions<'w>,
+    settings: &Settings<'w>,
+    watch: &mut W,
+) -> Result<Report, Fault<'w>>
+    ensures { IfOk result (IsReported text.now conditions.now settings.now) }
+{
+    let asked = ask(alloc, text, conditions, settings)?;
+    let report = reported(rt, files, alloc, text, &asked, conditions, settings, watch);
+    drop(asked);
+    report
+}

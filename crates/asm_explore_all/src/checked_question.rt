@@ -1,0 +1,99 @@
+//! What is asked of all runs of a specification, from the texts.
+ghost use Rattle.std.specs.Prelude.{IfOk};
+ghost use Rattle.asm_syntax.specs.code.Views.{spec_of};
+ghost use Rattle.asm_run.specs.Headline.{IsAccepted};
+ghost use Rattle.asm_explore_all.specs.CheckedQuestions.{IsAsked};
+ghost use Rattle.asm_explore_texts.specs.Conditions.{MayBeConditionOf, text_of};
+
+use asm_check::Checked;
+use asm_explore::Question;
+use asm_explore_report::checked_text::{all_asked, checked};
+use asm_explore_texts::conditions::{Conditions, optional_term};
+use asm_explore_words::fault::Fault;
+use asm_explore_words::settings::Settings;
+use asm_syntax::term::Term;
+use std::alloc::Global;
+
+/// A specification, and what is looked for in it.
+#[derive(Drop)]
+pub struct CheckedQuestion {
+    pub checked: Checked,
+    pub question: Question,
+}
+
+/// What the settings ask of the specification with this text, by these conditions.
+pub fn ask<'w>(
+    alloc: Global,
+    text: &[u8],
+    conditions: &Conditions<'w>,
+    settings: &Settings<'w>,
+) -> Result<CheckedQuestion, Fault<'w>>
+    ensures { IfOk result (IsAsked text.now conditions.now settings.now) }
+{
+    let checked = checked(alloc, text, settings.spec)?;
+    match question_of(alloc, text, &checked, conditions, settings) {
+        Ok(question) => Ok(CheckedQuestion { checked, question }),
+        Err(fault) => {
+            drop(checked);
+            Err(fault)
+        }
+    }
+}
+
+/// What the settings ask of a specification, which has this text, by these conditions.
+fn question_of<'w>(
+    alloc: Global,
+    text: &[u8],
+    checked: &Checked,
+    conditions: &Conditions<'w>,
+    settings: &Settings<'w>,
+) -> Result<Question, Fault<'w>>
+    requires accepted { IsAccepted text.now (spec_of checked.now.spec) }
+    ensures { IfOk result (λ question. IsAsked text.now conditions.now settings.now (record { checked = checked.now; question = question })) }
+{
+    let items = checked.spec.items.len();
+    let always = all_asked(alloc, text, checked, conditions.always.as_slice())?;
+    match other_terms(alloc, text, items, conditions) {
+        Ok(terms) => Ok(Question {
+            always,
+            within: terms.within,
+            when_quiet: terms.when_quiet,
+            turns: settings.turns,
+            steps: settings.steps,
+            states: settings.states,
+            outcomes: settings.outcomes as usize,
+        }),
+        Err(fault) => {
+            drop(always);
+            Err(fault)
+        }
+    }
+}
+
+/// The terms of the conditions that aren't to be true in each state.
+#[derive(Drop)]
+struct OtherTerms {
+    within: Option<Term>,
+    when_quiet: Option<Term>,
+}
+
+/// The terms of the conditions that aren't to be true in each state, over the specification with
+/// this text, which has `items` items.
+fn other_terms<'w>(
+    alloc: Global,
+    text: &[u8],
+    items: usize,
+    conditions: &Conditions<'w>,
+) -> Result<OtherTerms, Fault<'w>>
+    ensures within { IfOk result (λ terms. MayBeConditionOf text.now items (text_of conditions.now.within) terms.within) }
+    ensures when_quiet { IfOk result (λ terms. MayBeConditionOf text.now items (text_of conditions.now.when_quiet) terms.when_quiet) }
+{
+    let within = optional_term(alloc, text, items, &conditions.within)?;
+    match optional_term(alloc, text, items, &conditions.when_quiet) {
+        Ok(when_quiet) => Ok(OtherTerms { within, when_quiet }),
+        Err(fault) => {
+            drop(within);
+            Err(fault)
+        }
+    }
+}

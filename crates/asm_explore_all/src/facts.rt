@@ -1,0 +1,210 @@
+//! The lines behind the first of a report of all runs.
+ghost use Rattle.std.specs.Prelude.{◌≡◌, ◌⊎◌, ◌∷◌, ◌++◌, [], List, ℕ, IfOk, OnOk};
+ghost use Rattle.std.specs.String.{string_bytes};
+ghost use Rattle.asm_explore_texts.specs.Conditions.{text_of};
+ghost use Rattle.asm_explore_report.specs.Comments.{lines_of};
+ghost use Rattle.asm_explore_report.specs.Facts.{condition_line};
+ghost use Rattle.asm_explore_report.specs.ShownRuns.{shown_of};
+ghost use Rattle.asm_explore_all.specs.AllFacts.{AreFacts, IsCrowd, IsCrowdLine, all_looked_for, command_lines, condition_lines, count_line, count_lines, graph_note, optional_line, shown_in};
+
+use crate::graph_file::GraphFile;
+use asm_check::Checked;
+use asm_explore::{ExplorationResult, Finding, RuleOverLimit};
+use asm_explore_report::command::command;
+use asm_explore_report::facts::{add, add_always, add_condition, add_text, looked_for};
+use asm_explore_report::shown_run::{ShownRun, first_state, run_of};
+use asm_explore_texts::conditions::{Condition, Conditions};
+use asm_explore_texts::path_text::{push_path, push_position};
+use asm_explore_texts::rule_in_text::rule_in_text;
+use asm_explore_words::settings::Settings;
+use std::alloc::{AllocError, Global};
+
+/// Adds a condition that may be left out, behind this name.
+fn add_optional(
+    alloc: Global,
+    lines: &mut Vec<Vec<u8>>,
+    name: &str,
+    condition: &Option<Condition<'_>>,
+) -> Result<(), AllocError>
+    ensures { OnOk result (lines_of lines.new.items ≡ lines_of lines.old.items ++ optional_line name.now (text_of condition.now)) }
+{
+    match condition {
+        Some(condition) => add_condition(lines, String::from_str(alloc, name)?, condition),
+        None => Ok(()),
+    }
+}
+
+/// Adds the conditions.
+fn add_conditions(
+    alloc: Global,
+    lines: &mut Vec<Vec<u8>>,
+    conditions: &Conditions<'_>,
+) -> Result<(), AllocError>
+    ensures { OnOk result (lines_of lines.new.items ≡ lines_of lines.old.items ++ condition_lines conditions.now) }
+{
+    add_always(alloc, lines, conditions.always.as_slice())?;
+    add_optional(alloc, lines, "deadlock unless", &conditions.when_quiet)?;
+    add_optional(alloc, lines, "within", &conditions.within)
+}
+
+/// Which faults are looked for.
+fn all_looked_for_line(
+    alloc: Global,
+    conditions: &Conditions<'_>,
+) -> Result<String, AllocError>
+    ensures { IfOk result (λ line. string_bytes line ≡ all_looked_for conditions.now) }
+{
+    let mut line = looked_for(alloc, conditions.always.len())?;
+    if conditions.when_quiet.is_some() {
+        line.push_str(", deadlock")?;
+    }
+    Ok(line)
+}
+
+/// Adds a number behind its name.
+fn add_count(
+    alloc: Global,
+    lines: &mut Vec<Vec<u8>>,
+    name: &str,
+    count: usize,
+) -> Result<(), AllocError>
+    ensures { OnOk result (lines_of lines.new.items ≡ lines_of lines.old.items ++ count_line name.now count ∷ []) }
+{
+    add_text(lines, format!(in alloc; "{name} {count}")?)
+}
+
+/// Adds the counts.
+fn add_counts(
+    alloc: Global,
+    lines: &mut Vec<Vec<u8>>,
+    answered: &ExplorationResult,
+) -> Result<(), AllocError>
+    ensures { OnOk result (lines_of lines.new.items ≡ lines_of lines.old.items ++ count_lines answered.now) }
+{
+    add_count(alloc, lines, "states", answered.states)?;
+    add_count(alloc, lines, "steps", answered.outcomes)?;
+    add_count(alloc, lines, "depth", answered.depth as usize)?;
+    add_count(alloc, lines, "widest", answered.widest)?;
+    add_count(alloc, lines, "quiet", answered.quiet)
+}
+
+/// Where a rule is whose step has too many outcomes.
+fn place_of(
+    alloc: Global,
+    text: &[u8],
+    checked: &Checked,
+    path: &[u64],
+) -> Result<Vec<u8>, AllocError> {
+    let mut place = Vec::new(alloc);
+    if let Some(found) = rule_in_text(alloc, checked, path)? {
+        push_position(alloc, &mut place, text, found.name.at)?;
+        place.extend_from_slice(b", ")?;
+    }
+    place.extend_from_slice(b"place ")?;
+    push_path(alloc, &mut place, path)?;
+    Ok(place)
+}
+
+/// The line that says of which rule a step has too many outcomes, and how many.
+fn crowd_line(
+    alloc: Global,
+    text: &[u8],
+    checked: &Checked,
+    crowd: &RuleOverLimit,
+) -> Result<Vec<u8>, AllocError>
+    ensures { IfOk result (λ line. IsCrowdLine crowd.now.first crowd.now.others line.items) }
+{
+    let place = place_of(alloc, text, checked, crowd.path.as_slice())?;
+    let (first, others) = (crowd.first, crowd.others);
+    let mut line = Vec::from_slice(alloc, b"too many outcomes at ")?;
+    line.extend_from_slice(place.as_slice())?;
+    line.extend_from_slice(format!(in alloc; ": {first} beside {others}")?.as_bytes())?;
+    Ok(line)
+}
+
+/// The line of a step with too many outcomes, if there is one.
+fn crowd_lines(
+    alloc: Global,
+    text: &[u8],
+    checked: &Checked,
+    finding: &Finding,
+) -> Result<Vec<Vec<u8>>, AllocError>
+    ensures { IfOk result (λ lines. IsCrowd finding.now (lines_of lines.items)) }
+{
+    let mut lines = Vec::new(alloc);
+    match finding {
+        Finding::TooManyOutcomes { crowd, .. } => {
+            lines.push(crowd_line(alloc, text, checked, crowd)?)?;
+            Ok(lines)
+        }
+        _ => Ok(lines),
+    }
+}
+
+/// The run that shows what is found, if a run does.
+pub(crate) fn shown_run(finding: &Finding) -> Option<ShownRun<'_>>
+    ensures { shown_of result ≡ shown_in finding.now }
+{
+    match finding {
+        Finding::BadStep(bad) => Some(run_of(bad)),
+        Finding::WrongFirst => Some(first_state()),
+        _ => None,
+    }
+}
+
+/// Adds the line that shows how the run is made by `asm`, if one is shown.
+fn add_command(
+    alloc: Global,
+    lines: &mut Vec<Vec<u8>>,
+    settings: &Settings<'_>,
+    shown: Option<ShownRun<'_>>,
+) -> Result<(), AllocError>
+    ensures { OnOk result (lines_of lines.new.items ≡ lines_of lines.old.items ++ command_lines settings.now.turns settings.now.spec.now (shown_of shown)) }
+{
+    match shown {
+        Some(run) => {
+            let line = command(alloc, run.steps, settings.turns, settings.spec)?;
+            add(lines, line)
+        }
+        None => Ok(()),
+    }
+}
+
+/// Adds a line if the graph of states isn't written.
+fn add_graph_note(
+    alloc: Global,
+    lines: &mut Vec<Vec<u8>>,
+    drawing: GraphFile,
+) -> Result<(), AllocError>
+    ensures { OnOk result ((note : List (List ℕ)) × ((note ≡ []) ⊎ (note ≡ graph_note ∷ [])) × (lines_of lines.new.items ≡ lines_of lines.old.items ++ note)) }
+{
+    match drawing {
+        GraphFile::NotAsked | GraphFile::Written => Ok(()),
+        GraphFile::TooMany => add_text(
+            lines,
+            String::from_str(alloc, "no graph is written: more than 2000 states")?,
+        ),
+    }
+}
+
+/// What is said after the first line.
+pub(crate) fn facts(
+    alloc: Global,
+    text: &[u8],
+    checked: &Checked,
+    conditions: &Conditions<'_>,
+    settings: &Settings<'_>,
+    answered: &ExplorationResult,
+    drawing: GraphFile,
+) -> Result<Vec<Vec<u8>>, AllocError>
+    ensures { IfOk result (λ lines. AreFacts conditions.now settings.now answered.now (lines_of lines.items)) }
+{
+    let finding = &answered.finding;
+    let mut lines = crowd_lines(alloc, text, checked, finding)?;
+    add_conditions(alloc, &mut lines, conditions)?;
+    add_text(&mut lines, all_looked_for_line(alloc, conditions)?)?;
+    add_counts(alloc, &mut lines, answered)?;
+    add_graph_note(alloc, &mut lines, drawing)?;
+    add_command(alloc, &mut lines, settings, shown_run(finding))?;
+    Ok(lines)
+}

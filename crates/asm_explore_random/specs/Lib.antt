@@ -1,0 +1,2 @@
+pub mod RandomFacts
+pub mod RandomReport

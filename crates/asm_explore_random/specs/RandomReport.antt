@@ -1,0 +1,82 @@
+-- Definition. What is asked of random runs, by the bytes of a specification's text and of
+-- conditions, and what is printed of them.
+--     IsRandomAsked              the specification of the text, and a question with the term of the
+--                                conditions
+--     random_status finding      1 if a fault is found, and else 0
+--     RandomTells                the words are of the fault that is found, as `WordsTell` says it
+--     random_line                what is found, in a line; these words describe the fault, if there
+--                                is one
+--     IsRandomReport             the first comment says what is found, the others are the facts, and
+--                                the script is that of the run that is found
+--     IsRandomReported           what is printed says what is found of the specification with this
+--                                text
+use Rattle.std.specs.Prelude.{◌≡◌, ℕ, Bool, List, ◌++◌, Option, Some, None, codes, decimal, ⊤}
+use Rattle.asm_state.specs.declared.operation.Op.{Op}
+use Rattle.asm_syntax.specs.code.Views.{spec_of}
+use Rattle.asm_syntax.specs.declared.term.Term.{Term}
+use Rattle.asm_check.specs.declared.checked.Checked.{Checked}
+use Rattle.asm_meaning.specs.Declarations.{specification_of}
+use Rattle.asm_explore.specs.Conditions.{term_holds}
+use Rattle.asm_random.specs.RandomResults.{Claims}
+use Rattle.asm_random.specs.declared.random_result.RandomResult.{RandomResult}
+use Rattle.asm_random.specs.declared.random_result.RandomFinding.{RandomFinding}
+use Rattle.asm_random.specs.declared.random_result.RandomFinding.TheVariants as random
+use Rattle.asm_run.specs.Headline.{IsAccepted}
+use Rattle.asm_explore_report.specs.AskedConditions.{AreAllAsked}
+use Rattle.asm_explore_texts.specs.Conditions.{texts_of}
+use Rattle.asm_explore_report.specs.FirstLine.{fault_line, first_state_line}
+use Rattle.asm_explore_report.specs.Printed.{IsPrinted}
+use Rattle.asm_explore_report.specs.FaultWords.{BadTells, IsBroken}
+use Rattle.asm_explore_texts.specs.declared.conditions.Condition.{Condition}
+use Rattle.asm_explore_random.specs.declared.random_asked.CheckedRandomQuestion.{CheckedRandomQuestion}
+use Rattle.asm_explore_report.specs.declared.report.Report.{Report}
+use Rattle.asm_explore_words.specs.declared.settings.RandomSettings.{RandomSettings}
+use Rattle.asm_explore_random.specs.RandomFacts.{random_facts, shown_in}
+
+pub record IsRandomAsked (text : List ℕ) (conditions : List Condition) (settings : RandomSettings) (asked : CheckedRandomQuestion) : Type 0 where
+  pub accepted : IsAccepted text (spec_of asked.checked.spec)
+  pub always : AreAllAsked text (texts_of conditions) asked.checked asked.question.always
+  pub turns : asked.question.turns ≡ settings.turns
+  pub steps : asked.question.steps ≡ settings.steps
+  pub runs : asked.question.runs ≡ settings.runs
+  pub seed : asked.question.seed ≡ settings.seed
+
+-- ---- what is printed
+
+abbrev pub random_status : RandomFinding → ℕ
+random_status random.Nothing = 0
+random_status (random.Bad number bad) = 1
+random_status random.WrongFirst = 1
+random_status (random.Unwritten unwritten) = 1
+
+abbrev pub RandomTells : Checked → List (Op × Term) → (turns : ℕ) → RandomFinding → (words : List ℕ) → Type 0
+RandomTells checked links turns random.Nothing words = ⊤
+RandomTells checked links turns (random.Bad number bad) words = BadTells checked links turns bad words
+RandomTells checked links turns random.WrongFirst words = IsBroken checked links (specification_of (spec_of checked.spec)).initial words
+RandomTells checked links turns (random.Unwritten unwritten) words = ⊤
+
+-- of `runs` runs that were made, of at most `steps` steps
+abbrev pub random_line : (runs steps : ℕ) → RandomFinding → (words : List ℕ) → List ℕ
+random_line runs steps random.Nothing words = codes "no fault in " ++ (decimal runs ++ (codes " runs of at most " ++ (decimal steps ++ codes " steps")))
+random_line runs steps (random.Bad number bad) words = fault_line bad.fault bad.step words
+random_line runs steps random.WrongFirst words = first_state_line words
+random_line runs steps (random.Unwritten unwritten) words = fault_line unwritten.fault unwritten.step words
+
+module _ (text : List ℕ) (conditions : List Condition) (settings : RandomSettings) where
+  pub record IsRandomReport (asked : CheckedRandomQuestion) (links : List (Op × Term)) (answer : RandomResult) (printed : List ℕ) : Type 0 where
+    pub words : List ℕ
+    pub tell : RandomTells asked.checked links asked.question.turns answer.finding words
+    pub are_printed :
+        IsPrinted text asked.question.turns settings.trace (random_line answer.runs asked.question.steps answer.finding words) (random_facts conditions settings answer)
+        (shown_in answer.finding) printed
+
+  pub record IsRandomReported (report : Report) : Type 0 where
+    pub asked : CheckedRandomQuestion
+    pub is_asked : IsRandomAsked text conditions settings asked
+    pub answer : RandomResult
+    -- what the finding says of the runs of the specification with this text
+    pub claims :
+        let q = asked.question in
+        Claims (specification_of (spec_of asked.checked.spec)) q.turns q.steps (term_holds asked.checked q.always) answer.finding
+    pub status : report.status ≡ random_status answer.finding
+    pub printed : IsRandomReport asked is_asked.always.links answer report.text.items

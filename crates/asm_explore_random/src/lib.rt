@@ -1,0 +1,6 @@
+//! What the command `random` of `asm-explore` reports.
+#![tactic(auto)]
+
+pub mod random_asked;
+mod random_facts;
+pub mod random_report;

@@ -1,0 +1,10 @@
+mod AndLinks
+mod BareViews
+mod BetweenLines
+mod JoinedTerms
+mod PrintedScripts
+mod RunMore
+mod SkippedLines
+mod TraceText
+mod WholeLines
+mod WordsOfRuns

@@ -1,0 +1,23 @@
+-- Free. What the words say of a run that was found.
+--     wrong_tells      the words of the last state
+use Rattle.std.proofs.Common.{◌≡◌, ℕ, List, sym, subst}
+use Rattle.asm_state.specs.Location.{State}
+use Rattle.asm_state.specs.declared.operation.Op.{Op}
+use Rattle.asm_syntax.specs.code.Views.{spec_of}
+use Rattle.asm_syntax.specs.declared.term.Term.{Term}
+use Rattle.asm_check.specs.declared.checked.Checked.{Checked}
+use Rattle.asm_reader.specs.ScriptLines.{Script}
+use Rattle.asm_reader.specs.ScriptText.{IsScript}
+use Rattle.asm_meaning.specs.Declarations.{specification_of}
+use Rattle.asm_explore.specs.declared.fault.Fault.{Fault}
+use Rattle.asm_explore.specs.declared.fault.Fault.TheVariants.{Exhausted, Inconsistent, Wrong, Deadlock}
+use Rattle.asm_explore_report.specs.Replay.{IsAfter}
+use Rattle.asm_explore_report.specs.FaultWords.{FaultTells, IsBroken, shown_after}
+
+pub wrong_tells : (checked : Checked) (links : List (Op × Term)) (turns : ℕ) (fault : Fault) (text : List ℕ) (step : ℕ) (A : State) (words : List ℕ) → fault ≡ Wrong
+    → ((script : Script) → IsScript text script → IsAfter (specification_of (spec_of checked.spec)) turns script (shown_after fault step) A)
+    → IsBroken checked links A words → FaultTells checked links turns fault text step words
+wrong_tells checked links turns Exhausted text step A words is after broken = cc
+wrong_tells checked links turns Inconsistent text step A words is after broken = cc
+wrong_tells checked links turns Deadlock text step A words is after broken = cc
+wrong_tells checked links turns Wrong text step A words is after broken = λ script spelled. subst (λ B. IsBroken checked links B words) (sym (after script spelled).1) broken

@@ -1,0 +1,22 @@
+use Rattle.std.proofs.Common.{◌≡◌, ◌∙◌, ap}
+use Rattle.asm_state.specs.Signature.{state_of}
+use Rattle.asm_syntax.specs.PlainTree.{plain_term}
+use Rattle.asm_syntax.specs.code.Views.{spec_of, term_of}
+use Rattle.asm_check.specs.Shapes.{shape_of}
+use Rattle.asm_meaning.specs.Program.{nothing_bound}
+use Rattle.asm_meaning.specs.Value.{value}
+use Rattle.asm_meaning.specs.code.TermValues.{program, shown}
+use Rattle.asm_explore_report.proofs.BareViews.{nothing_over}
+use Rattle.asm_explore_report.proofs.broken_condition.value_of.Goals as goal
+
+pub returns : goal.returns
+returns c =
+    let a = c.args in
+    let checked = a.checked.now in
+    let shape = shape_of (spec_of checked.spec) in
+    let signature = c.signature-signature.result.now in
+    let same : signature ≡ shape = c.signature-signature.ensures in
+    let shows : shown c.new-view.result ≡ state_of shape a.state.now =
+    nothing_over signature shape c.new-nothing.result a.state.now (shown c.new-view.result) same
+    (c.new-nothing.ensures.empty signature c.count.ensures.sound c.count.ensures.count) (λ U stands consistent. c.new-view.ensures.fired U stands consistent) in
+    c.value.ensures ∙ (c.in_ok-word.ensures ∙ ap (λ A. value (program checked) A nothing_bound (plain_term (term_of a.term.now))) shows)

@@ -1,0 +1,16 @@
+use Rattle.std.specs.String.{string_bytes}
+use Rattle.std.proofs.lemmas.Result.{IfOk-weaker}
+use Rattle.asm_state.specs.Signature.{state_of}
+use Rattle.asm_syntax.specs.code.Views.{spec_of}
+use Rattle.asm_check.specs.Shapes.{shape_of}
+use Rattle.asm_explore_report.proofs.WordsOfRuns.{wrong_tells}
+use Rattle.asm_explore_report.proofs.fault_words.bad_words.Goals as goal
+
+pub returns-in_ok-last-in-Wrong : goal.returns-in_ok-last-in-Wrong
+returns-in_ok-last-in-Wrong g c links joined =
+    let checked = c.args.subject.now.checked.now in
+    let bad = c.args.bad.now in
+    IfOk-weaker c.words_in.result _ _
+    (λ words broken. wrong_tells checked links c.args.subject.now.turns bad.fault (string_bytes bad.script) bad.step
+    (state_of (shape_of (spec_of checked.spec)) c.in_ok-last-in-Wrong.last) words.items c.in-Wrong.is c.in_ok-last-in-Wrong.ensures.after broken)
+    (c.words_in.ensures links joined)

@@ -1,0 +1,29 @@
+-- Definition. Lines of a report behind the first.
+--     front_of text               the text, or 200 bytes of a longer one
+--     condition_line name text    a condition with its name
+--     always_lines texts          the conditions that are to be true in each state, by their numbers
+--     looked_for conditions       which faults are looked for, if so many conditions are to be true
+--                                 in each state
+use Rattle.std.specs.Prelude.{ℕ, suc, List, [], ◌∷◌, ◌++◌, take, drop, codes, decimal}
+use Rattle.std.specs.List.{flat_map, range_with_len}
+
+abbrev pub cut_mark : (rest : List ℕ) → List ℕ
+cut_mark [] = []
+cut_mark (byte ∷ rest) = codes " .."
+
+abbrev pub front_of : List ℕ → List ℕ
+front_of text = take 200 text ++ cut_mark (drop 200 text)
+
+abbrev pub condition_line : (name text : List ℕ) → List ℕ
+condition_line name text = name ++ (codes ": " ++ front_of text)
+
+-- the conditions from this number on
+abbrev pub lines_from : ℕ → List (List ℕ) → List (List ℕ)
+lines_from number [] = []
+lines_from number (text ∷ texts) = condition_line (codes "condition " ++ decimal number) text ∷ lines_from (suc number) texts
+
+abbrev pub always_lines : List (List ℕ) → List (List ℕ)
+always_lines texts = lines_from 1 texts
+
+abbrev pub looked_for : (conditions : ℕ) → List ℕ
+looked_for conditions = codes "looked for: clash, outside, exhausted" ++ flat_map (λ number. codes ", condition " ++ decimal number) (range_with_len 1 conditions)

@@ -1,0 +1,62 @@
+-- Definition. The words for the fault that is found.
+--     value_in checked t A             the value of a term in a state, with no name bound
+--     IsBroken checked links A words   of the conditions the first that isn't true in the state:
+--                                      its number, from 1, and its value
+--     shown_after fault step           how many steps of the run show a fault of this step; a
+--                                      deadlock is the state that it begins in
+--     FaultTells, BadTells             of a run that was found the words are of its last state; a
+--                                      deadlock is called so
+use Rattle.std.specs.Prelude.{◌≡◌, ℕ, suc, ◌-◌, true, false, List, ◌∷◌, ◌++◌, length, codes, decimal, ⊤}
+use Rattle.std.specs.String.{string_bytes}
+use Rattle.std.specs.List.{list_all}
+use Rattle.asm_state.specs.Location.{State}
+use Rattle.asm_state.specs.declared.operation.Op.{Op}
+use Rattle.asm_state.specs.declared.value.Value.{Value}
+use Rattle.asm_syntax.specs.PlainTree.{plain_term}
+use Rattle.asm_syntax.specs.code.Views.{spec_of, term_of}
+use Rattle.asm_syntax.specs.declared.term.Term.{Term}
+use Rattle.asm_check.specs.declared.checked.Checked.{Checked}
+use Rattle.asm_reader.specs.ScriptLines.{Script}
+use Rattle.asm_reader.specs.ScriptText.{IsScript}
+use Rattle.asm_meaning.specs.Declarations.{specification_of}
+use Rattle.asm_meaning.specs.Program.{nothing_bound}
+use Rattle.asm_meaning.specs.Run.{run}
+use Rattle.asm_meaning.specs.Value.{is_true, value}
+use Rattle.asm_meaning.specs.code.TermValues.{program}
+use Rattle.asm_explore.specs.declared.exploration_result.BadRun.{BadRun}
+use Rattle.asm_explore.specs.declared.fault.Fault.{Fault}
+use Rattle.asm_explore.specs.declared.fault.Fault.TheVariants.{Exhausted, Inconsistent, Wrong, Deadlock}
+use Rattle.asm_run.specs.Trace.{value_text}
+use Rattle.asm_run.specs.Written.{names_in}
+
+abbrev pub value_in : Checked → Term → State → Value
+value_in checked t A = value (program checked) A nothing_bound (plain_term (term_of t))
+
+abbrev pub broken_words : Checked → (number : ℕ) → Value → List ℕ
+broken_words checked number v = codes "condition " ++ (decimal number ++ (codes " is " ++ value_text (names_in (spec_of checked.spec)).elements v))
+
+pub record IsBroken (checked : Checked) (links : List (Op × Term)) (A : State) (words : List ℕ) : Type 0 where
+  pub before : List (Op × Term)
+  pub link : Op × Term
+  pub after : List (Op × Term)
+  pub parts : links ≡ before ++ link ∷ after
+  pub held : list_all (λ l. is_true (value_in checked l.1 A)) before ≡ true
+  pub broken : is_true (value_in checked link.1 A) ≡ false
+  pub are : words ≡ broken_words checked (suc (length before)) (value_in checked link.1 A)
+
+abbrev pub shown_after : Fault → (step : ℕ) → ℕ
+shown_after Exhausted step = step
+shown_after Inconsistent step = step
+shown_after Wrong step = step
+shown_after Deadlock step = step - 1
+
+module _ (checked : Checked) (links : List (Op × Term)) (turns : ℕ) where
+  abbrev pub FaultTells : Fault → (script_text : List ℕ) → (step : ℕ) → (words : List ℕ) → Type 0
+  FaultTells Exhausted script_text step words = ⊤
+  FaultTells Inconsistent script_text step words = ⊤
+  FaultTells Wrong script_text step words =
+      (script : Script) → IsScript script_text script → IsBroken checked links (run (specification_of (spec_of checked.spec)) turns script step).last words
+  FaultTells Deadlock script_text step words = words ≡ codes "deadlock"
+
+  abbrev pub BadTells : BadRun → (words : List ℕ) → Type 0
+  BadTells bad words = FaultTells bad.fault (string_bytes bad.script) bad.step words

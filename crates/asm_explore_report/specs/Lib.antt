@@ -1,0 +1,12 @@
+pub mod AskedConditions
+pub mod Commands
+pub mod Commented
+pub mod Comments
+pub mod Facts
+pub mod FaultWords
+pub mod FirstLine
+pub mod Printed
+pub mod Replay
+pub mod RunEnds
+pub mod ShownRuns
+pub mod TraceLines

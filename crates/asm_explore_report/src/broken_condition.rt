@@ -1,0 +1,84 @@
+//! The condition that isn't true in a state.
+ghost use Rattle.std.specs.Prelude.{◌≡◌, List, Option, Some, length, IfOk, IfSome};
+ghost use Rattle.asm_state.specs.Signature.{count_of, state_of};
+ghost use Rattle.asm_state.specs.declared.operation.Op.{Op};
+ghost use Rattle.asm_syntax.specs.code.Views.{spec_of};
+ghost use Rattle.asm_syntax.specs.declared.term.Term.{Term as Code};
+ghost use Rattle.asm_check.specs.Shapes.{shape_of};
+ghost use Rattle.asm_meaning.specs.Value.{is_true};
+ghost use Rattle.asm_explore_texts.specs.Conditions.{IsJoined};
+ghost use Rattle.asm_explore_report.specs.FaultWords.{IsBroken, broken_words, value_in};
+
+use crate::value_text::push_value;
+use asm_by_code::by_code::value_by_code;
+use asm_check::Checked;
+use asm_explore_texts::conditions::parts;
+use asm_meaning::View;
+use asm_state::state::State;
+use asm_state::value::Value;
+use asm_syntax::term::Term;
+use asm_updates::summary::Summary;
+use std::alloc::{AllocError, Global};
+
+/// Whether the value is true.
+fn is_truth(value: Value) -> bool
+    ensures { result ≡ is_true value }
+{
+    match value {
+        Value::Truth(truth) => truth,
+        _ => false,
+    }
+}
+
+/// The value of a term in a state, with no name bound.
+fn value_of(
+    alloc: Global,
+    checked: &Checked,
+    state: &State,
+    term: &Term,
+) -> Result<Value, AllocError>
+    requires { length state.now ≡ count_of (shape_of (spec_of checked.now.spec)) }
+    ensures { IfOk result (λ v. v ≡ value_in checked.now term.now (state_of (shape_of (spec_of checked.now.spec)) state.now)) }
+{
+    let signature = checked.signature();
+    let nothing = Summary::new(alloc, signature.count());
+    let view = View::new(signature, state, &nothing);
+    let word = value_by_code(alloc, checked, &view, term)?;
+    Ok(word.value())
+}
+
+/// The words for the condition with this number, which has this value.
+fn words_for(
+    alloc: Global,
+    checked: &Checked,
+    number: usize,
+    value: Value,
+) -> Result<Vec<u8>, AllocError>
+    ensures { IfOk result (λ words. words.items ≡ broken_words checked.now number value) }
+{
+    let mut words = format!(in alloc; "condition {number} is ")?.into_bytes();
+    push_value(alloc, &mut words, checked, value)?;
+    Ok(words)
+}
+
+/// The first of the joined conditions that isn't true in a state, in words: its number, from 1, and
+/// its value.
+pub(crate) fn broken_in(
+    alloc: Global,
+    checked: &Checked,
+    always: &Option<Term>,
+    state: &State,
+) -> Result<Option<Vec<u8>>, AllocError>
+    requires { length state.now ≡ count_of (shape_of (spec_of checked.now.spec)) }
+    ensures { (links : List (Op × Code)) → IsJoined links always.now →
+        IfOk result (λ found. IfSome found (λ words. IsBroken checked.now links (state_of (shape_of (spec_of checked.now.spec)) state.now) words.items)) }
+{
+    let links = parts(always);
+    for k in 0..links.len() {
+        let value = value_of(alloc, checked, state, &links[k].1)?;
+        if !is_truth(value) {
+            return Ok(Some(words_for(alloc, checked, k + 1, value)?));
+        }
+    }
+    Ok(None)
+}

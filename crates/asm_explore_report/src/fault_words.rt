@@ -1,0 +1,109 @@
+//! The fault that is found, in words.
+//!
+//! The words for a run that goes wrong come from making the run again. If it ended otherwise than
+//! the search found, the program would end with an error of its own (`Fault::Unconfirmed`) and give
+//! no report.
+ghost use Rattle.std.specs.Prelude.{◌≡◌, List, length, IfOk};
+ghost use Rattle.std.specs.String.{string_bytes};
+ghost use Rattle.asm_state.specs.Signature.{count_of, state_of};
+ghost use Rattle.asm_state.specs.declared.operation.Op.{Op};
+ghost use Rattle.asm_syntax.specs.code.Views.{spec_of};
+ghost use Rattle.asm_syntax.specs.declared.term.Term.{Term as Code};
+ghost use Rattle.asm_check.specs.Shapes.{shape_of};
+ghost use Rattle.asm_reader.specs.ScriptLines as lines;
+ghost use Rattle.asm_reader.specs.ScriptText.{IsScript};
+ghost use Rattle.asm_meaning.specs.Declarations.{specification_of};
+ghost use Rattle.asm_explore_texts.specs.Conditions.{IsJoined};
+ghost use Rattle.asm_explore_report.specs.Replay.{IsAfter};
+ghost use Rattle.asm_explore_report.specs.FaultWords.{BadTells, IsBroken, shown_after};
+
+use crate::broken_condition::broken_in;
+use crate::confirm_run::end_words;
+use crate::replay::state_after;
+use crate::shown_run::run_of;
+use asm_check::Checked;
+use asm_explore::{BadRun, Fault as StepFault};
+use asm_explore_words::fault::Fault;
+use asm_reader::{one_script, read_script};
+use asm_state::state::State;
+use asm_syntax::InputError;
+use asm_syntax::term::Term;
+use std::alloc::Global;
+use std::thread::Threads;
+
+/// What is said when the script of a run that goes wrong can't be written.
+pub const UNWRITTEN: &[u8] = b"its script can't be written";
+
+/// What a run is looked at for: a specification, the condition that is to be true in each state,
+/// and how many turns exhaust an `iterate` or a `while`.
+#[derive(Clone, Copy)]
+pub struct Subject<'s> {
+    pub checked: &'s Checked,
+    pub always: &'s Option<Term>,
+    pub turns: u32,
+}
+
+/// The words for a state in which a condition isn't true.
+fn words_in<'w>(alloc: Global, subject: &Subject<'_>, state: &State) -> Result<Vec<u8>, Fault<'w>>
+    requires { length state.now ≡ count_of (shape_of (spec_of subject.now.checked.now.spec)) }
+    ensures { (links : List (Op × Code)) → IsJoined links subject.now.always.now →
+        IfOk result (λ words. IsBroken subject.now.checked.now links (state_of (shape_of (spec_of subject.now.checked.now.spec)) state.now) words.items) }
+{
+    match broken_in(alloc, subject.checked, subject.always, state)? {
+        Some(words) => Ok(words),
+        None => Err(Fault::Unconfirmed),
+    }
+}
+
+/// The last state of the run under the script that was found.
+fn last_state<'w>(alloc: Global, subject: &Subject<'_>, bad: &BadRun) -> Result<State, Fault<'w>>
+    ensures whole { IfOk result (λ s. length s ≡ count_of (shape_of (spec_of subject.now.checked.now.spec))) }
+    ensures after { let s = spec_of subject.now.checked.now.spec in (script : lines.Script) → IsScript (string_bytes bad.now.script) script →
+        IfOk result (λ A. IsAfter (specification_of s) subject.now.turns script (shown_after bad.now.fault bad.now.step) (state_of (shape_of s) A)) }
+{
+    let Ok(steps) = u32::try_from(run_of(bad).steps) else {
+        return Err(Fault::Unconfirmed);
+    };
+    one_script();
+    let script = match read_script(alloc, bad.script.as_bytes()) {
+        Ok(script) => script,
+        Err(InputError::Memory) => return Err(Fault::Memory),
+        Err(InputError::Named(_)) => return Err(Fault::Unconfirmed),
+    };
+    match state_after(alloc, subject.checked, subject.turns, &script, steps)? {
+        Some(state) => Ok(state),
+        None => Err(Fault::Unconfirmed),
+    }
+}
+
+/// The words for a first state in which a condition isn't true.
+pub fn first_words<'w>(alloc: Global, subject: &Subject<'_>) -> Result<Vec<u8>, Fault<'w>>
+    ensures { (links : List (Op × Code)) → IsJoined links subject.now.always.now →
+        IfOk result (λ words. IsBroken subject.now.checked.now links (specification_of (spec_of subject.now.checked.now.spec)).initial words.items) }
+{
+    let first = State::initial(alloc, subject.checked.signature())?;
+    let words = words_in(alloc, subject, &first)?;
+    Ok(words)
+}
+
+/// The words for a run that goes wrong. The run is made again.
+pub fn bad_words<'w, R: Threads + Sync>(
+    rt: &R,
+    alloc: Global,
+    text: &[u8],
+    subject: &Subject<'_>,
+    bad: &BadRun,
+) -> Result<Vec<u8>, Fault<'w>>
+    ensures { (links : List (Op × Code)) → IsJoined links subject.now.always.now →
+        IfOk result (λ words. BadTells subject.now.checked.now links subject.now.turns bad.now words.items) }
+{
+    let end = end_words(rt, alloc, text, subject.turns, bad)?;
+    match bad.fault {
+        StepFault::Exhausted | StepFault::Inconsistent => Ok(end),
+        StepFault::Wrong => {
+            let last = last_state(alloc, subject, bad)?;
+            words_in(alloc, subject, &last)
+        }
+        StepFault::Deadlock => Ok(Vec::from_slice(alloc, b"deadlock")?),
+    }
+}

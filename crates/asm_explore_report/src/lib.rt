@@ -1,0 +1,21 @@
+//! What the reports of `asm-explore` have in common: comments before a script, words for a fault,
+//! the run that is shown, and the conditions that are asked.
+#![tactic(auto)]
+
+mod broken_condition;
+pub mod checked_text;
+pub mod command;
+pub mod comment;
+pub mod commented;
+mod confirm_run;
+pub mod ended;
+pub mod facts;
+pub mod fault_words;
+pub mod first_line;
+pub mod laws;
+pub mod printed;
+mod replay;
+pub mod report;
+pub mod shown_run;
+mod trace_lines;
+pub mod value_text;

@@ -1,0 +1,3 @@
+mod ClashLines
+mod RunStatuses
+mod ShortLines

@@ -1,0 +1,32 @@
+-- Free. Statuses of one run.
+--     choices_told         the status of a run that ends so
+--     clash_told           the status of a run that ends by these assignments
+use Rattle.std.proofs.Common.{◌≡◌, ℕ, Bool, true, false, inl, inr, refl, sym, ap, subst}
+use Rattle.asm_syntax.specs.SourceTree.{Spec}
+use Rattle.asm_reader.specs.ScriptLines.{Script}
+use Rattle.asm_meaning.specs.Run.{AtExhausted, AtFault, AtLimit, End, Run}
+use Rattle.asm_run.specs.Headline.{IsReturned}
+use Rattle.asm_run.specs.declared.end.End as shown
+use Rattle.asm_run.specs.declared.end.End.TheVariants.{Clash, Exhausted, Limit, Outside}
+use Rattle.asm_clash.specs.ClashOfRun.{EndsSo}
+use Rattle.asm_clash.specs.declared.clash.ClashOfRun.{ClashOfRun}
+use Rattle.asm_clash.specs.declared.clash.ClashOfRun.TheVariants as clash
+use Rattle.asm_explore_run.specs.RunReport.{IsRunStatus, choices_status, clash_status, status_of_end}
+
+zero_or_six : (all_met : Bool) → IsRunStatus AtLimit (choices_status Limit all_met)
+zero_or_six true = inl refl
+zero_or_six false = inr refl
+
+-- A run ends at its limit just when the result says so.
+pub choices_told : (end : End) (answer : shown.End) (all_met : Bool) → IsReturned end answer → IsRunStatus end (choices_status answer all_met)
+choices_told AtLimit answer all_met is = subst (λ a. IsRunStatus AtLimit (choices_status a all_met)) (sym is) (zero_or_six all_met)
+choices_told (AtExhausted step q) answer all_met is = ap (λ a. choices_status a all_met) is
+choices_told (AtFault step U) Limit all_met is = absurd is
+choices_told (AtFault step U) Exhausted all_met is = absurd is
+choices_told (AtFault step U) Clash all_met is = refl
+choices_told (AtFault step U) Outside all_met is = refl
+
+pub clash_told : (tree : Spec) (turns : ℕ) (script : Script) (r : Run) (ended : ClashOfRun) → EndsSo tree turns script r ended → clash_status ended ≡ status_of_end r.end
+clash_told tree turns script r clash.Limit ends = sym (ap status_of_end ends)
+clash_told tree turns script r (clash.Exhausted step q) ends = sym (ap status_of_end ends)
+clash_told tree turns script r (clash.Faulty step fault found) ends = sym (ap status_of_end ends.1)

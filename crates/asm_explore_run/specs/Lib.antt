@@ -1,0 +1,2 @@
+pub mod ClashText
+pub mod RunReport

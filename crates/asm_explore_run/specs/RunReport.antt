@@ -1,0 +1,102 @@
+-- Definition. What is printed of one run.
+--     status_of_end end               1 if the run ends before its limit, and else 0
+--     IsRunStatus end status          the same, or 6 instead of 0
+--     IsChoicesText                   a script with comments between its lines
+--     IsPrintedOf                     some first comment, and such a script
+--     AreChoicesReported              what is printed is a script with a line for each choice of
+--                                     the run, under which the run is the same; where that has no
+--                                     text, its first comment
+--     assignments_in clash            the assignments by which a run ends, if it has such
+--     IsClashReported                 comments: how the run ends, and one for each assignment by
+--                                     which it does, as many as fit into a script
+use Rattle.std.specs.Prelude.{◌≡◌, ◌⊎◌, ℕ, Bool, cond, List, [], length}
+use Rattle.asm_syntax.specs.SourceTree.{Spec}
+use Rattle.asm_reader.specs.code.ExactLines.{exactly}
+use Rattle.asm_reader.specs.ScriptLines.{Line, Script}
+use Rattle.asm_reader.specs.ScriptText.{IsScript}
+use Rattle.asm_meaning.specs.Scripts.{IsUnrepeated}
+use Rattle.asm_meaning.specs.Declarations.{specification_of}
+use Rattle.asm_meaning.specs.Run.{AtExhausted, AtFault, AtLimit, End, Run, run}
+use Rattle.asm_explore.specs.RunChoices.{AreChoices, lines_forward}
+use Rattle.asm_explore.specs.declared.outcomes.listed_outcome.Choice.{Choice}
+use Rattle.asm_run.specs.Headline.{IsAccepted}
+use Rattle.asm_run.specs.declared.end.End as shown
+use Rattle.asm_run.specs.declared.end.End.TheVariants.{Clash, Exhausted, Limit, Outside}
+use Rattle.asm_clash.specs.ClashOfRun.{EndsSo}
+use Rattle.asm_clash.specs.declared.assignment.Assignment.{Assignment}
+use Rattle.asm_clash.specs.declared.clash.ClashOfRun.{ClashOfRun}
+use Rattle.asm_clash.specs.declared.clash.ClashOfRun.TheVariants as clash
+use Rattle.asm_explore_report.specs.Commented.{HasNoText, IsCommentedText, IsWithoutScript, said_by}
+use Rattle.asm_explore_report.specs.declared.commented.Entry.{Entry}
+use Rattle.asm_explore_run.specs.ClashText.{IsClashText}
+use Rattle.asm_explore_report.specs.declared.report.Report.{Report}
+use Rattle.asm_explore_words.specs.declared.settings.RunSettings.{RunSettings}
+
+-- the run that settings ask for
+abbrev pub run_asked : Spec → RunSettings → Script → Run
+run_asked tree settings script = run (specification_of tree) settings.turns script settings.steps
+
+-- ---- statuses
+
+abbrev pub choices_status : shown.End → (all_met : Bool) → ℕ
+choices_status Limit all_met = cond all_met 0 6
+choices_status Clash all_met = 1
+choices_status Outside all_met = 1
+choices_status Exhausted all_met = 1
+
+abbrev pub IsRunStatus : End → ℕ → Type 0
+IsRunStatus AtLimit status = (status ≡ 0) ⊎ (status ≡ 6)
+IsRunStatus (AtExhausted step q) status = status ≡ 1
+IsRunStatus (AtFault step U) status = status ≡ 1
+
+abbrev pub clash_status : ClashOfRun → ℕ
+clash_status clash.Limit = 0
+clash_status (clash.Exhausted step q) = 1
+clash_status (clash.Faulty step fault found) = 1
+
+abbrev pub status_of_end : End → ℕ
+status_of_end AtLimit = 0
+status_of_end (AtExhausted step q) = 1
+status_of_end (AtFault step U) = 1
+
+-- ---- what is printed
+
+-- a first comment, these lines with comments between and after them, or what of it fits
+abbrev pub IsChoicesText : (first : List ℕ) → List Line → (text : List ℕ) → Type 0
+IsChoicesText first lines text =
+    ((entries : List Entry) × (last : List (List ℕ)) × (said_by entries ≡ lines) × IsCommentedText first entries last text) ⊎ IsWithoutScript first lines text
+
+abbrev pub assignments_in : ClashOfRun → List Assignment
+assignments_in clash.Limit = []
+assignments_in (clash.Exhausted step q) = []
+assignments_in (clash.Faulty step fault found) = found.items
+
+-- some first comment, and it spells the script, unless that has no text
+pub record IsPrintedOf (lines : List Line) (text : List ℕ) : Type 0 where
+  pub first : List ℕ
+  pub is : IsChoicesText first lines text
+  pub says : IsUnrepeated (exactly lines) → IsScript text (exactly lines) ⊎ HasNoText first lines
+
+module _ (text script_text : List ℕ) (settings : RunSettings) (report : Report) where
+  pub record AreChoicesReported : Type 0 where
+    pub tree : Spec
+    pub accepted : IsAccepted text tree
+    pub script : Script
+    pub spelled : IsScript script_text script
+    pub steps : List (List Choice)
+    pub choices : AreChoices tree settings.turns script settings.steps steps
+    pub printed : IsPrintedOf (lines_forward steps) report.text.items
+    pub apart : IsUnrepeated (exactly (lines_forward steps))
+    pub again : run_asked tree settings (exactly (lines_forward steps)) ≡ run_asked tree settings script
+    pub status : IsRunStatus (run_asked tree settings script).end report.status
+
+  pub record IsClashReported : Type 0 where
+    pub tree : Spec
+    pub accepted : IsAccepted text tree
+    pub script : Script
+    pub spelled : IsScript script_text script
+    pub clash : ClashOfRun
+    pub ends : EndsSo tree settings.turns script (run_asked tree settings script) clash
+    pub first : List ℕ
+    pub printed : IsClashText first (length (assignments_in clash)) report.text.items
+    pub status : report.status ≡ status_of_end (run_asked tree settings script).end

@@ -1,0 +1,111 @@
+//! What is printed of the assignments by which a run ends.
+ghost use Rattle.std.specs.Prelude.{◌≡◌, ℕ, List, length, IfOk};
+ghost use Rattle.asm_syntax.specs.code.Views.{spec_of};
+ghost use Rattle.asm_reader.specs.ScriptLines.{Script};
+ghost use Rattle.asm_reader.specs.ScriptText.{IsScript};
+ghost use Rattle.asm_run.specs.Headline.{IsAccepted};
+ghost use Rattle.asm_clash.specs.ClashOfRun.{EndsSo};
+ghost use Rattle.asm_explore_run.specs.ClashText.{IsClashText};
+ghost use Rattle.asm_explore_run.specs.RunReport.{IsClashReported, assignments_in, clash_status, run_asked};
+
+use crate::clash_text::clash_text;
+use crate::run_end::ended;
+use asm_check::Checked;
+use asm_clash::assignment::Assignment;
+use asm_clash::clash::{ClashOfRun, clash_of_run};
+use asm_explore_report::checked_text::checked;
+use asm_explore_report::ended::EndedRun;
+use asm_explore_report::report::Report;
+use asm_explore_texts::script_given::script_given;
+use asm_explore_words::fault::Fault;
+use asm_explore_words::settings::RunSettings;
+use std::alloc::{AllocError, Global};
+use std::thread::Threads;
+
+/// The status of a run that ends so.
+fn status_of(clash: &ClashOfRun) -> u8
+    ensures { result ≡ clash_status clash.now }
+{
+    match clash {
+        ClashOfRun::Limit => 0,
+        ClashOfRun::Exhausted { .. } | ClashOfRun::Faulty { .. } => 1,
+    }
+}
+
+/// The assignments by which a run ends.
+fn assignments(clash: &ClashOfRun) -> &[Assignment]
+    ensures { result.now ≡ assignments_in clash.now }
+{
+    match clash {
+        ClashOfRun::Faulty { assignments, .. } => assignments.as_slice(),
+        ClashOfRun::Limit | ClashOfRun::Exhausted { .. } => &[],
+    }
+}
+
+/// How the run of a specification ends that the settings ask for, and by which assignments.
+fn clash_of<'w>(
+    alloc: Global,
+    checked: &Checked,
+    script_text: &[u8],
+    settings: &RunSettings<'w>,
+) -> Result<ClashOfRun, Fault<'w>>
+    ensures { let tree = spec_of checked.now.spec in
+        IfOk result (λ clash. (script : Script) × IsScript script_text.now script ×
+        EndsSo tree settings.now.turns script (run_asked tree settings.now script) clash) }
+{
+    let script = script_given(alloc, script_text, settings)?;
+    let clash = clash_of_run(alloc, checked, settings.turns, &script, settings.steps)?;
+    Ok(clash)
+}
+
+/// What is printed of a run that ends so.
+fn printed<'w>(
+    alloc: Global,
+    text: &[u8],
+    checked: &Checked,
+    settings: &RunSettings<'w>,
+    clash: &ClashOfRun,
+    ended: &EndedRun,
+) -> Result<Vec<u8>, AllocError>
+    ensures { IfOk result (λ text. (first : List ℕ) × IsClashText first (length (assignments_in clash.now)) text.items) }
+{
+    let first = ended.line(alloc, settings.steps)?;
+    let location = ended.location(alloc)?;
+    let shown = assignments(clash);
+    clash_text(alloc, text, checked, first.as_slice(), shown, location)
+}
+
+/// What is printed of the assignments by which the run of a specification ends.
+fn report_of<'w, R: Threads + Sync>(
+    rt: &R,
+    alloc: Global,
+    text: &[u8],
+    checked: &Checked,
+    script_text: &[u8],
+    settings: &RunSettings<'w>,
+) -> Result<Report, Fault<'w>>
+    requires accepted { IsAccepted text.now (spec_of checked.now.spec) }
+    ensures { IfOk result (IsClashReported text.now script_text.now settings.now) }
+{
+    let clash = clash_of(alloc, checked, script_text, settings)?;
+    let ended = ended(rt, alloc, text, script_text, settings)?;
+    let text = printed(alloc, text, checked, settings, &clash, &ended)?;
+    let status = status_of(&clash);
+    Ok(Report { text, status })
+}
+
+/// What is printed of the assignments by which the run ends that the settings ask for.
+pub fn clash_report<'w, R: Threads + Sync>(
+    rt: &R,
+    alloc: Global,
+    text: &[u8],
+    script_text: &[u8],
+    settings: &RunSettings<'w>,
+) -> Result<Report, Fault<'w>>
+    ensures { IfOk result (IsClashReported text.now script_text.now settings.now) }
+{
+    let checked = checked(alloc, text, settings.spec)?;
+    let report = report_of(rt, alloc, text, &checked, script_text, settings);
+    drop(checked);
+    report
+}

@@ -1,0 +1,76 @@
+//! The text of the assignments by which a run ends.
+ghost use Rattle.std.specs.Prelude.{◌≡◌, ◌∷◌, ◌++◌, ◌<◌, ◌≤◌, [], length, IfOk, OnOk, IsFalse, IsTrue};
+ghost use Rattle.asm_reader.specs.ScriptText.{max_script};
+ghost use Rattle.asm_explore_report.specs.Comments.{comment, comments as comments_of};
+ghost use Rattle.asm_explore_run.specs.ClashText.{IsClashText, more};
+
+use crate::assignment_line::assignment_line;
+use asm_check::Checked;
+use asm_clash::assignment::Assignment;
+use asm_explore_report::comment::{add_comment, comments};
+use asm_reader::MAX_SCRIPT;
+use std::alloc::{AllocError, Global};
+
+/// Adds a comment for so many assignments that aren't shown, if there are any.
+fn add_rest(alloc: Global, text: &mut Vec<u8>, rest: usize) -> Result<(), AllocError>
+    ensures { OnOk result (text.new.items ≡ text.old.items ++ comments_of (more rest)) }
+{
+    if rest == 0 {
+        return Ok(());
+    }
+    let line = format!(in alloc; "and {rest} more")?;
+    add_comment(text, line.as_bytes())
+}
+
+/// Whether so many bytes and others are no more than a script may have.
+fn fit(bytes: usize, others: usize) -> bool
+    ensures yes { IsTrue result → bytes + others ≤ max_script }
+    ensures no { IsFalse result → max_script < bytes + others }
+{
+    bytes <= MAX_SCRIPT && others <= MAX_SCRIPT - bytes
+}
+
+/// Adds a comment, if it fits with that for so many assignments which aren't shown.
+fn add_if_it_fits(
+    alloc: Global,
+    text: &mut Vec<u8>,
+    line: &[u8],
+    rest: usize,
+) -> Result<bool, AllocError>
+    ensures added { IfOk result (λ fits. IsTrue fits → (text.new.items ≡ text.old.items ++ comment line.now) × (length (text.new.items ++ comments_of (more rest)) ≤ max_script)) }
+    ensures left { IfOk result (λ fits. IsFalse fits → (text.new.items ≡ text.old.items) × (max_script < length ((text.old.items ++ comment line.now) ++ comments_of (more rest)))) }
+{
+    let before = text.len();
+    let mut end = Vec::new(alloc);
+    add_rest(alloc, &mut end, rest)?;
+    add_comment(text, line)?;
+    if fit(text.len(), end.len()) {
+        return Ok(true);
+    }
+    text.truncate(before);
+    Ok(false)
+}
+
+/// A first comment, and one for each assignment, as many as fit into a script. Those to `result`
+/// are at this location.
+pub(crate) fn clash_text(
+    alloc: Global,
+    text: &[u8],
+    checked: &Checked,
+    first: &[u8],
+    assignments: &[Assignment],
+    location: &[u8],
+) -> Result<Vec<u8>, AllocError>
+    ensures { IfOk result (λ text. IsClashText first.now (length assignments.now) text.items) }
+{
+    let mut shown = comments(alloc, first, &[])?;
+    for k in 0..assignments.len() {
+        let line = assignment_line(alloc, text, checked, &assignments[k], location)?;
+        let rest = assignments.len() - k;
+        if !add_if_it_fits(alloc, &mut shown, line.as_slice(), rest - 1)? {
+            add_rest(alloc, &mut shown, rest)?;
+            return Ok(shown);
+        }
+    }
+    Ok(shown)
+}

@@ -1,4 +1,0 @@
-use Rattle.asm_explore_tool.proofs.clash_report.clash_report.Goals as goal
-
-pub report_of-report-requires-clause-accepted : goal.report_of-report-requires-clause-accepted
-report_of-report-requires-clause-accepted g c κs inside = c.in_ok-checked.ensures

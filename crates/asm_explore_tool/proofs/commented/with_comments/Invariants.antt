@@ -1,6 +1,0 @@
-use Rattle.std.proofs.Common.{◌≡◌, take}
-use Rattle.asm_explore_tool.specs.Commented.{entries_text}
-use Rattle.asm_explore_tool.proofs.commented.with_comments.Given as goal
-
-abbrev pub invariant-loop-i : goal.invariant-loop-i
-invariant-loop-i l = l.text.items ≡ entries_text (take l.i l.entries)
