@@ -231,7 +231,8 @@ class Question(NamedTuple):
 
 
 class Found(NamedTuple):
-    """What random runs come to: how many runs and steps were made; the number of the bad run, and it as it was drawn and when it is short."""
+    """What random runs come to: how many runs and steps were made; the number of the bad run, and it as it was drawn and when it is short,
+    unless it is the first state that is bad."""
 
     runs: int
     steps: int
@@ -270,7 +271,7 @@ def facts(question, found, first):
     yield f"steps {found.steps}"
     if found.run is not None:
         yield f"run {found.run}"
-        if not found.short.is_shortest:
+        if found.short is not None and not found.short.is_shortest:
             yield "it may be longer than it need be"
 
 
@@ -289,14 +290,18 @@ class Answer(NamedTuple):
 def answer_to(machine, question, spec="-"):
     """What is answered for the specification in a file of this name."""
     if machine.broken[0]:
-        found = Found(0, 0)
-        return Answer(list(facts(question, found, Wrong(0, machine.broken[0]).said())), [], found)
+        found = Found(0, 0, 0)
+        return answer_of(question, found, Wrong(0, machine.broken[0]), [], spec)
     found = found_by(machine, question)
     if found.run is None:
         none = f"no fault in {question.runs} runs of at most {question.steps} steps"
         return Answer(list(facts(question, found, none)), [], found)
-    wrong = found.short.wrong
+    return answer_of(question, found, found.short.wrong, list(script_of(found.short)), spec)
+
+
+def answer_of(question, found, wrong, lines, spec):
+    """What is answered for a run that goes wrong, with the lines of its script."""
     turns = f" --turns {question.turns}" if question.turns != 1000 else ""
     call = f"asm --steps {wrong.step} --script THIS{turns}" + (f" {spec}" if spec != "-" else "")
     comments = [*facts(question, found, wrong.said()), call]
-    return Answer([one.replace("\n", " ") for one in comments], list(script_of(found.short)), found)
+    return Answer([one.replace("\n", " ") for one in comments], lines, found)

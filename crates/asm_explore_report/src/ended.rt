@@ -12,14 +12,14 @@ use std::thread::Threads;
 
 /// How a run ends, and its trace.
 #[derive(Drop)]
-pub(crate) struct EndedRun {
+pub struct EndedRun {
     pub end: End,
     pub trace: Vec<u8>,
 }
 
 /// Makes the run of the specification with this text under the script with that one, of at most
 /// `steps` steps.
-pub(crate) fn ended_run<R: Threads + Sync>(
+pub fn ended_run<R: Threads + Sync>(
     rt: &R,
     alloc: Global,
     text: &[u8],
@@ -43,7 +43,7 @@ pub(crate) fn ended_run<R: Threads + Sync>(
 
 impl EndedRun {
     /// What the trace says of the end: the kind, and what comes after the number of the step.
-    pub(crate) fn words(&self, alloc: Global) -> Result<Vec<u8>, AllocError> {
+    pub fn words(&self, alloc: Global) -> Result<Vec<u8>, AllocError> {
         let kind = kind_of(self.end);
         let mut words = format!(in alloc; "{kind} ")?.into_bytes();
         words.extend_from_slice(behind_number(self.end_line(alloc)?))?;
@@ -51,7 +51,7 @@ impl EndedRun {
     }
 
     /// How the run ends, in a line. Without a fault it made `steps` steps.
-    pub(crate) fn line(&self, alloc: Global, steps: u32) -> Result<Vec<u8>, AllocError> {
+    pub fn line(&self, alloc: Global, steps: u32) -> Result<Vec<u8>, AllocError> {
         if matches!(self.end, End::Limit) {
             return Ok(format!(in alloc; "limit after step {steps}")?.into_bytes());
         }
@@ -63,7 +63,7 @@ impl EndedRun {
     }
 
     /// The location of the fault that the run ends by, as the trace shows it.
-    pub(crate) fn location(&self, alloc: Global) -> Result<&[u8], AllocError> {
+    pub fn location(&self, alloc: Global) -> Result<&[u8], AllocError> {
         Ok(before_values(behind_number(self.end_line(alloc)?)))
     }
 
