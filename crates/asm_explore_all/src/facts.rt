@@ -85,7 +85,8 @@ fn add_counts(
     add_count(alloc, lines, "steps", answered.outcomes)?;
     add_count(alloc, lines, "depth", answered.depth as usize)?;
     add_count(alloc, lines, "widest", answered.widest)?;
-    add_count(alloc, lines, "quiet", answered.quiet)
+    add_count(alloc, lines, "quiet", answered.quiet)?;
+    Ok(())
 }
 
 /// Where a rule is whose step has too many outcomes.
@@ -159,7 +160,7 @@ fn add_command(
     settings: &Settings<'_>,
     shown: Option<ShownRun<'_>>,
 ) -> Result<(), AllocError>
-    ensures { OnOk result (lines_of lines.new.items ≡ lines_of lines.old.items ++ command_lines settings.now.turns settings.now.spec.now (shown_of shown)) }
+    ensures { OnOk result (lines_of lines.new.items ≡ lines_of lines.old.items ++ command_lines settings.now.turns settings.now.spec.now (shown_of shown.entry)) }
 {
     match shown {
         Some(run) => {

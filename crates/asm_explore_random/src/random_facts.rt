@@ -1,8 +1,8 @@
 //! The lines behind the first of a report of random runs.
-ghost use Rattle.std.specs.Prelude.{◌≡◌, ◌++◌, IfOk, OnOk};
+ghost use Rattle.std.specs.Prelude.{◌≡◌, ◌∷◌, ◌++◌, [], IfOk, OnOk};
 ghost use Rattle.asm_explore_report.specs.Comments.{lines_of};
 ghost use Rattle.asm_explore_report.specs.ShownRuns.{shown_of};
-ghost use Rattle.asm_explore_random.specs.RandomFacts.{longer_lines, random_counts, random_facts as facts_of, run_lines, shown_in};
+ghost use Rattle.asm_explore_random.specs.RandomFacts.{longer_lines, random_counts, random_facts as facts_of, run_line, run_lines, shown_in};
 
 use asm_explore_report::command::command;
 use asm_explore_report::facts::{add, add_always, add_text, looked_for};
@@ -38,6 +38,13 @@ fn add_counts(
     add_text(lines, format!(in alloc; "steps {steps}")?)
 }
 
+/// Adds the number of the run that is shown.
+fn add_number(alloc: Global, lines: &mut Vec<Vec<u8>>, run: u32) -> Result<(), AllocError>
+    ensures { OnOk result (lines_of lines.new.items ≡ lines_of lines.old.items ++ run_line run ∷ []) }
+{
+    add_text(lines, format!(in alloc; "run {run}")?)
+}
+
 /// Adds that the run may be longer than it need be, if that is so.
 fn add_longer(
     alloc: Global,
@@ -67,12 +74,12 @@ fn add_run(
     let (turns, spec) = (settings.turns, settings.spec);
     match &answer.finding {
         RandomFinding::Bad { run, bad } => {
-            add_text(lines, format!(in alloc; "run {run}")?)?;
+            add_number(alloc, lines, *run)?;
             add_longer(alloc, lines, answer.shortest)?;
             add(lines, command(alloc, run_of(bad).steps, turns, spec)?)
         }
         RandomFinding::WrongFirst => {
-            add_text(lines, String::from_str(alloc, "run 0")?)?;
+            add_number(alloc, lines, 0)?;
             add(lines, command(alloc, 0, turns, spec)?)
         }
         RandomFinding::Nothing | RandomFinding::Unwritten(_) => Ok(()),

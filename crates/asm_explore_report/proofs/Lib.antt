@@ -1,6 +1,7 @@
 mod AndLinks
 mod BareViews
 mod BetweenLines
+mod ConditionLines
 mod JoinedTerms
 mod PrintedScripts
 mod RunMore

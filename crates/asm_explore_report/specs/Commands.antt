@@ -14,12 +14,12 @@ plain_bytes = codes "abcdefghijklmnopqrstuvwxyzABCDEFGHIJKLMNOPQRSTUVWXYZ0123456
 abbrev pub is_plain : ℕ → Bool
 is_plain byte = list_any (λ plain. plain == byte) plain_bytes
 
--- an apostrophe ends the quoted part, stands behind a backslash, and begins the next part
+-- An apostrophe, byte 39, ends the quoted part, stands behind a backslash, and begins the next part.
 abbrev pub quoted_byte : ℕ → List ℕ
 quoted_byte byte = cond (byte == 39) (codes "'\\''") (byte ∷ [])
 
 abbrev pub quoted : List ℕ → List ℕ
-quoted text = codes "'" ++ (flat_map quoted_byte text ++ codes "'")
+quoted text = 39 ∷ (flat_map quoted_byte text ++ 39 ∷ [])
 
 abbrev pub shell_word : List ℕ → List ℕ
 shell_word [] = quoted []

@@ -4,15 +4,10 @@
 --     always_lines texts          the conditions that are to be true in each state, by their numbers
 --     looked_for conditions       which faults are looked for, if so many conditions are to be true
 --                                 in each state
-use Rattle.std.specs.Prelude.{ℕ, suc, List, [], ◌∷◌, ◌++◌, take, drop, codes, decimal}
-use Rattle.std.specs.List.{flat_map, range_with_len}
-
-abbrev pub cut_mark : (rest : List ℕ) → List ℕ
-cut_mark [] = []
-cut_mark (byte ∷ rest) = codes " .."
+use Rattle.std.specs.Prelude.{ℕ, zero, suc, List, [], ◌∷◌, ◌++◌, cond, length, nat_lt, take, codes, decimal}
 
 abbrev pub front_of : List ℕ → List ℕ
-front_of text = take 200 text ++ cut_mark (drop 200 text)
+front_of text = take 200 text ++ cond (nat_lt 200 (length text)) (codes " ..") []
 
 abbrev pub condition_line : (name text : List ℕ) → List ℕ
 condition_line name text = name ++ (codes ": " ++ front_of text)
@@ -25,5 +20,10 @@ lines_from number (text ∷ texts) = condition_line (codes "condition " ++ decim
 abbrev pub always_lines : List (List ℕ) → List (List ℕ)
 always_lines texts = lines_from 1 texts
 
+-- so many conditions, from this number on
+abbrev pub numbered_from : (number count : ℕ) → List ℕ
+numbered_from number zero = []
+numbered_from number (suc count) = codes ", condition " ++ (decimal number ++ numbered_from (suc number) count)
+
 abbrev pub looked_for : (conditions : ℕ) → List ℕ
-looked_for conditions = codes "looked for: clash, outside, exhausted" ++ flat_map (λ number. codes ", condition " ++ decimal number) (range_with_len 1 conditions)
+looked_for conditions = codes "looked for: clash, outside, exhausted" ++ numbered_from 1 conditions

@@ -3,6 +3,7 @@
 -- and then the script; but never its first line, and one line says what is left out.
 --     IsFirstFitting texts last text    the first of the texts that is no longer than a script may
 --                                       be, or else the last one
+--     part_name part, names_of parts    what a part of a report is called, and several are
 --     named name parts                  the name of these parts, if there are any
 --     left_out names                    the line that says what is left out, if anything is
 --     behind_first first others script  the first comment, the others, and the script
@@ -11,11 +12,13 @@
 --                                       one
 --     IsPrinted                         a report with the script of a run, and its trace if that is
 --                                       asked for
-use Rattle.std.specs.Prelude.{◌≡◌, ◌⊎◌, ◌<◌, ◌≤◌, ℕ, Bool, cond, List, [], ◌∷◌, ◌++◌, length, Option, Some, None, codes}
+use Rattle.std.specs.Prelude.{◌≡◌, ◌⊎◌, ◌<◌, ◌≤◌, ℕ, Bool, cond, List, [], ◌∷◌, ◌++◌, length, map, Option, Some, None, codes}
 use Rattle.std.specs.List.{flat_map}
 use Rattle.asm_reader.specs.ScriptLines.{Script}
 use Rattle.asm_reader.specs.ScriptText.{IsScript, max_script}
 use Rattle.asm_explore_report.specs.Comments.{comments}
+use Rattle.asm_explore_report.specs.declared.printed.Part.{Part}
+use Rattle.asm_explore_report.specs.declared.printed.Part.TheVariants as part
 use Rattle.asm_explore_report.specs.RunEnds.{IsTraceOf}
 use Rattle.asm_explore_report.specs.ShownRuns.{Shown, script_of}
 use Rattle.asm_explore_report.specs.TraceLines.{text_lines}
@@ -25,6 +28,14 @@ IsFirstFitting [] last text = text ≡ last
 IsFirstFitting (one ∷ more) last text = ((length one ≤ max_script) × (text ≡ one)) ⊎ ((max_script < length one) × IsFirstFitting more last text)
 
 -- ---- what is left out
+
+abbrev pub part_name : Part → List ℕ
+part_name part.Trace = codes "the trace"
+part_name part.Comments = codes "the comments"
+part_name part.Script = codes "the script"
+
+abbrev pub names_of : List Part → List (List ℕ)
+names_of parts = map part_name parts
 
 abbrev pub named : {X : Type 0} → (name : List ℕ) → List X → List (List ℕ)
 named name [] = []

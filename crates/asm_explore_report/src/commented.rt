@@ -9,7 +9,7 @@ ghost use Rattle.asm_explore_report.specs.Comments.{comments as comments_of, lin
 ghost use Rattle.asm_explore_report.specs.Commented.{HasNoText, IsCommentedText, commented, entry_text, said_by, script_alone, without_script};
 
 use crate::comment::{add_comments, comments};
-use crate::printed::{COMMENTS, SCRIPT, fits, left_out, text_behind_first};
+use crate::printed::{Part, fits, left_out, text_behind_first};
 use asm_explore::{ScriptLine, WritingError, Zeros, script_text};
 use asm_reader::MAX_SCRIPT;
 use asm_syntax::InputError;
@@ -93,7 +93,7 @@ fn with_comments(
 fn without_comments(alloc: Global, first: &[u8], script: &[u8]) -> Result<Vec<u8>, AllocError>
     ensures { IfOk result (λ text. text.items ≡ script_alone first.now script.now) }
 {
-    let line = left_out(alloc, &[COMMENTS])?;
+    let line = left_out(alloc, &[Part::Comments])?;
     text_behind_first(alloc, first, line.as_slice(), script)
 }
 
@@ -101,7 +101,7 @@ fn without_comments(alloc: Global, first: &[u8], script: &[u8]) -> Result<Vec<u8
 pub fn first_alone(alloc: Global, first: &[u8]) -> Result<Vec<u8>, AllocError>
     ensures { IfOk result (λ text. text.items ≡ without_script first.now) }
 {
-    let line = left_out(alloc, &[COMMENTS, SCRIPT])?;
+    let line = left_out(alloc, &[Part::Comments, Part::Script])?;
     comments(alloc, first, line.as_slice())
 }
 

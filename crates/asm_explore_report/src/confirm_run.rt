@@ -28,7 +28,7 @@ pub(crate) fn made<'w, R: Threads + Sync>(
     turns: u32,
     run: ShownRun<'_>,
 ) -> Result<EndedRun, Fault<'w>>
-    ensures { IfOk result (λ ended. IsTraceOf text.now run.script.now turns run.steps ended.trace.items) }
+    ensures { IfOk result (λ ended. IsTraceOf text.now run.entry.script.now turns run.entry.steps ended.trace.items) }
 {
     let Ok(steps) = u32::try_from(run.steps) else {
         return Err(Fault::Unconfirmed);

@@ -1,5 +1,5 @@
 //! Lines of a report behind the first.
-ghost use Rattle.std.specs.Prelude.{◌≡◌, ◌++◌, ◌∷◌, [], IfOk, OnOk};
+ghost use Rattle.std.specs.Prelude.{◌≡◌, ◌++◌, ◌∷◌, [], codes, cond, length, nat_lt, take, IfOk, OnOk};
 ghost use Rattle.std.specs.String.{string_bytes};
 ghost use Rattle.asm_explore_texts.specs.Conditions.{texts_of};
 ghost use Rattle.asm_explore_report.specs.Comments.{lines_of};
@@ -27,15 +27,34 @@ pub fn add_text(lines: &mut Vec<Vec<u8>>, line: String) -> Result<(), AllocError
     Ok(())
 }
 
+/// A text, or the front of a long one.
+fn front(text: &[u8]) -> &[u8]
+    ensures { result.now ≡ take 200 text.now }
+{
+    if text.len() > MAX_CONDITION_BYTES {
+        &text[..MAX_CONDITION_BYTES]
+    } else {
+        text
+    }
+}
+
+/// What is behind the front of a text, if that isn't all of it.
+fn cut_mark(text: &[u8]) -> &'static [u8]
+    ensures { result.now ≡ cond (nat_lt 200 (length text.now)) (codes " ..") [] }
+{
+    if text.len() > MAX_CONDITION_BYTES {
+        b" .."
+    } else {
+        b""
+    }
+}
+
 /// Adds a text, or the front of a long one.
 fn push_front(line: &mut Vec<u8>, text: &[u8]) -> Result<(), AllocError>
     ensures { OnOk result (line.new.items ≡ line.old.items ++ facts.front_of text.now) }
 {
-    if text.len() <= MAX_CONDITION_BYTES {
-        return line.extend_from_slice(text);
-    }
-    line.extend_from_slice(&text[..MAX_CONDITION_BYTES])?;
-    line.extend_from_slice(b" ..")
+    line.extend_from_slice(front(text))?;
+    line.extend_from_slice(cut_mark(text))
 }
 
 /// Adds a line with a condition's text, or the front of a long one, behind this name.
@@ -73,7 +92,8 @@ pub fn looked_for(alloc: Global, conditions: usize) -> Result<String, AllocError
     ensures { IfOk result (λ line. string_bytes line ≡ facts.looked_for conditions) }
 {
     let mut line = String::from_str(alloc, "looked for: clash, outside, exhausted")?;
-    for number in 1..=conditions {
+    for k in 0..conditions {
+        let number = k + 1;
         line.push_str(format!(in alloc; ", condition {number}")?.as_str())?;
     }
     Ok(line)

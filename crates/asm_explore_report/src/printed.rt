@@ -2,12 +2,11 @@
 //!
 //! A text that would be too long for a script is made again without the lines of the trace, then
 //! without the other comments, and then without the script.
-ghost use Rattle.std.specs.Prelude.{◌≡◌, ◌∷◌, ◌++◌, ◌<◌, ◌≤◌, length, codes, IfOk, IsFalse, IsTrue, OnOk};
+ghost use Rattle.std.specs.Prelude.{◌≡◌, ◌∷◌, ◌++◌, ◌<◌, ◌≤◌, length, codes, cond, None, IfOk, IsFalse, IsTrue, OnOk};
 ghost use Rattle.std.specs.List.{flat_map};
-ghost use Rattle.clap.specs.Walk.{texts};
 ghost use Rattle.asm_reader.specs.ScriptText.{max_script};
 ghost use Rattle.asm_explore_report.specs.Comments.{comments as comments_of, lines_of};
-ghost use Rattle.asm_explore_report.specs.Printed.{IsPrinted, IsReportText, behind_first as text_behind, left_out as lines_left, named, no_comments, no_script, no_trace};
+ghost use Rattle.asm_explore_report.specs.Printed.{IsPrinted, IsReportText, behind_first as text_behind, left_out as lines_left, named, names_of, no_comments, no_script, no_trace, part_name};
 ghost use Rattle.asm_explore_report.specs.ShownRuns.{script_of as script_in, shown_of};
 
 use crate::comment::{add_comments, comments};
@@ -18,63 +17,68 @@ use asm_reader::MAX_SCRIPT;
 use std::alloc::{AllocError, Global};
 use std::thread::Threads;
 
-/// What the lines of a trace are called where they are left out.
-const TRACE: &str = "the trace";
+/// A part of a report that may be left out.
+#[derive(Clone, Copy, Debug, PartialEq, Eq)]
+pub(crate) enum Part {
+    Trace,
+    Comments,
+    Script,
+}
 
-/// What comments are called where they are left out.
-pub(crate) const COMMENTS: &str = "the comments";
+impl Part {
+    /// What the part is called.
+    fn name(self) -> &'static str
+        ensures { result.now ≡ part_name self }
+    {
+        match self {
+            Part::Trace => "the trace",
+            Part::Comments => "the comments",
+            Part::Script => "the script",
+        }
+    }
+}
 
-/// What a script is called where it is left out.
-pub(crate) const SCRIPT: &str = "the script";
-
-/// Adds the name of these lines, if there are any.
-fn add_name(
-    names: &mut Vec<&'static str>,
-    name: &'static str,
-    lines: &[Vec<u8>],
-) -> Result<(), AllocError>
-    ensures { OnOk result (texts names.new.items ≡ texts names.old.items ++ named name.now (lines_of lines.now)) }
+/// Adds a part that consists of these lines, if there are any.
+fn add_lines(parts: &mut Vec<Part>, part: Part, lines: &[Vec<u8>]) -> Result<(), AllocError>
+    ensures { OnOk result (names_of parts.new.items ≡ names_of parts.old.items ++ named (part_name part) (lines_of lines.now)) }
 {
     if !lines.is_empty() {
-        names.push(name)?;
+        parts.push(part)?;
     }
     Ok(())
 }
 
-/// Adds the name of a script, if it has any bytes.
-pub(crate) fn add_script_name(
-    names: &mut Vec<&'static str>,
-    script: &[u8],
-) -> Result<(), AllocError>
-    ensures { OnOk result (texts names.new.items ≡ texts names.old.items ++ named (codes "the script") script.now) }
+/// Adds a script, if it has any bytes.
+fn add_script(parts: &mut Vec<Part>, script: &[u8]) -> Result<(), AllocError>
+    ensures { OnOk result (names_of parts.new.items ≡ names_of parts.old.items ++ named (codes "the script") script.now) }
 {
     if !script.is_empty() {
-        names.push(SCRIPT)?;
+        parts.push(Part::Script)?;
     }
     Ok(())
 }
 
-/// The line that says that what has these names is left out, if anything is.
-pub(crate) fn left_out(alloc: Global, names: &[&'static str]) -> Result<Vec<Vec<u8>>, AllocError>
-    ensures { IfOk result (λ lines. lines_of lines.items ≡ lines_left (texts names.now)) }
+/// The line that says that these parts are left out, if there are any.
+pub(crate) fn left_out(alloc: Global, parts: &[Part]) -> Result<Vec<Vec<u8>>, AllocError>
+    ensures { IfOk result (λ lines. lines_of lines.items ≡ lines_left (names_of parts.now)) }
 {
     let mut lines = Vec::new(alloc);
-    if let [first, others @ ..] = names {
+    if let [first, others @ ..] = parts {
         let mut line = Vec::from_slice(alloc, b"left out: ")?;
-        line.extend_from_slice(first.as_bytes())?;
+        line.extend_from_slice(first.name().as_bytes())?;
         add_names(&mut line, others)?;
         lines.push(line)?;
     }
     Ok(lines)
 }
 
-/// Adds names, each after a comma.
-fn add_names(line: &mut Vec<u8>, names: &[&'static str]) -> Result<(), AllocError>
-    ensures { OnOk result (line.new.items ≡ line.old.items ++ flat_map (λ other. codes ", " ++ other) (texts names.now)) }
+/// Adds the names of parts, each after a comma.
+fn add_names(line: &mut Vec<u8>, parts: &[Part]) -> Result<(), AllocError>
+    ensures { OnOk result (line.new.items ≡ line.old.items ++ flat_map (λ other. codes ", " ++ other) (names_of parts.now)) }
 {
-    for k in 0..names.len() {
+    for part in parts {
         line.extend_from_slice(b", ")?;
-        line.extend_from_slice(names[k].as_bytes())?;
+        line.extend_from_slice(part.name().as_bytes())?;
     }
     Ok(())
 }
@@ -109,13 +113,13 @@ fn with_more(
     Ok(text)
 }
 
-/// The names of what is left out without the trace.
-fn names_of_trace(alloc: Global, trace: &[Vec<u8>]) -> Result<Vec<&'static str>, AllocError>
-    ensures { IfOk result (λ names. texts names.items ≡ named (codes "the trace") (lines_of trace.now)) }
+/// The trace among what is left out, if it has any lines.
+fn trace_part(alloc: Global, trace: &[Vec<u8>]) -> Result<Vec<Part>, AllocError>
+    ensures { IfOk result (λ parts. names_of parts.items ≡ named (codes "the trace") (lines_of trace.now)) }
 {
-    let mut names = Vec::new(alloc);
-    add_name(&mut names, TRACE, trace)?;
-    Ok(names)
+    let mut parts = Vec::new(alloc);
+    add_lines(&mut parts, Part::Trace, trace)?;
+    Ok(parts)
 }
 
 /// The text without the trace.
@@ -128,8 +132,8 @@ fn without_trace(
 ) -> Result<Vec<u8>, AllocError>
     ensures { IfOk result (λ text. text.items ≡ text_behind first.now (lines_of facts.now ++ lines_left (no_trace first.now (lines_of facts.now) (lines_of trace.now) script.now)) script.now) }
 {
-    let names = names_of_trace(alloc, trace)?;
-    let line = left_out(alloc, names.as_slice())?;
+    let parts = trace_part(alloc, trace)?;
+    let line = left_out(alloc, parts.as_slice())?;
     with_more(alloc, first, facts, line.as_slice(), script)
 }
 
@@ -143,9 +147,9 @@ fn without_comments(
 ) -> Result<Vec<u8>, AllocError>
     ensures { IfOk result (λ text. text.items ≡ text_behind first.now (lines_left (no_comments first.now (lines_of facts.now) (lines_of trace.now) script.now)) script.now) }
 {
-    let mut names = names_of_trace(alloc, trace)?;
-    add_name(&mut names, COMMENTS, facts)?;
-    let line = left_out(alloc, names.as_slice())?;
+    let mut parts = trace_part(alloc, trace)?;
+    add_lines(&mut parts, Part::Comments, facts)?;
+    let line = left_out(alloc, parts.as_slice())?;
     text_behind_first(alloc, first, line.as_slice(), script)
 }
 
@@ -159,10 +163,10 @@ fn first_alone(
 ) -> Result<Vec<u8>, AllocError>
     ensures { IfOk result (λ text. text.items ≡ comments_of (first.now ∷ lines_left (no_script first.now (lines_of facts.now) (lines_of trace.now) script.now))) }
 {
-    let mut names = names_of_trace(alloc, trace)?;
-    add_name(&mut names, COMMENTS, facts)?;
-    add_script_name(&mut names, script)?;
-    let line = left_out(alloc, names.as_slice())?;
+    let mut parts = trace_part(alloc, trace)?;
+    add_lines(&mut parts, Part::Comments, facts)?;
+    add_script(&mut parts, script)?;
+    let line = left_out(alloc, parts.as_slice())?;
     comments(alloc, first, line.as_slice())
 }
 
@@ -205,12 +209,19 @@ fn report_text(
 
 /// The script of the run that is shown, if there is one.
 fn script_of<'r>(shown: Option<ShownRun<'r>>) -> &'r [u8]
-    ensures { result.now ≡ script_in (shown_of shown) }
+    ensures { result.now ≡ script_in (shown_of shown.entry) }
 {
     match shown {
         Some(run) => run.script,
         None => &[],
     }
+}
+
+/// The run that is shown, if its trace is asked for.
+fn traced_run(asks: bool, shown: Option<ShownRun<'_>>) -> Option<ShownRun<'_>>
+    ensures { shown_of result ≡ cond asks (shown_of shown.entry) None }
+{
+    if asks { shown } else { None }
 }
 
 /// A first comment and others, the lines of the trace of the run that is shown if they are asked
@@ -225,10 +236,9 @@ pub fn printed<'w, R: Threads + Sync>(
     facts: &[Vec<u8>],
     shown: Option<ShownRun<'_>>,
 ) -> Result<Vec<u8>, Fault<'w>>
-    ensures { IfOk result (λ whole. IsPrinted text.now turns asks first.now (lines_of facts.now) (shown_of shown) whole.items) }
+    ensures { IfOk result (λ whole. IsPrinted text.now turns asks first.now (lines_of facts.now) (shown_of shown.entry) whole.items) }
 {
-    let traced = if asks { shown } else { None };
-    let trace = trace_lines(rt, alloc, text, turns, traced)?;
+    let trace = trace_lines(rt, alloc, text, turns, traced_run(asks, shown))?;
     let script = script_of(shown);
     let whole = report_text(alloc, first, facts, trace.as_slice(), script)?;
     Ok(whole)

@@ -63,7 +63,7 @@ pub(crate) fn trace_lines<'w, R: Threads + Sync>(
     turns: u32,
     shown: Option<ShownRun<'_>>,
 ) -> Result<Vec<Vec<u8>>, Fault<'w>>
-    ensures { IfOk result (λ lines. AreTraceLines text.now turns (shown_of shown) (lines_of lines.items)) }
+    ensures { IfOk result (λ lines. AreTraceLines text.now turns (shown_of shown.entry) (lines_of lines.items)) }
 {
     let mut lines = Vec::new(alloc);
     let Some(run) = shown else {

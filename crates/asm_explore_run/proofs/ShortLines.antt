@@ -1,12 +1,18 @@
 -- Free. Many lines of a script are too long.
+--     said_length   as many lines are said as there are
 --     too_many      more lines than a script can have
-use Rattle.std.proofs.Common.{ℕ, ◌+◌, ◌<◌, ◌≤◌, List, [], ◌∷◌, ◌++◌, length, codes, decimal, inr, arith, length-append}
+use Rattle.std.proofs.Common.{◌≡◌, ℕ, suc, refl, ap, ◌+◌, ◌<◌, ◌≤◌, List, [], ◌∷◌, ◌++◌, length, codes, decimal, inr, arith, length-append}
 use Rattle.asm_reader.specs.ScriptLines.{Line}
 use Rattle.asm_reader.specs.ScriptText.{max_script}
-use Rattle.asm_explore.specs.code.WrittenScripts.{line_text, lines_text, path_text}
+use Rattle.asm_explore.specs.code.WrittenScripts.{line_text, lines_said, lines_text, path_text}
+use Rattle.asm_explore.specs.declared.scripts.script_line.ScriptLine.{ScriptLine}
 use Rattle.asm_explore_report.specs.Comments.{comments}
 use Rattle.asm_explore_report.specs.Commented.{HasNoText}
 use Rattle.asm_explore_report.specs.Printed.{left_out}
+
+pub said_length : (lines : List ScriptLine) → length (lines_said lines) ≡ length lines
+said_length [] = refl
+said_length (line ∷ lines) = ap suc (said_length lines)
 
 -- two spaces and a line feed
 three : (line : Line) → 3 ≤ length (line_text line)

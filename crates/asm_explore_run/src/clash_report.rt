@@ -72,7 +72,8 @@ fn printed<'w>(
     let first = ended.line(alloc, settings.steps)?;
     let location = ended.location(alloc)?;
     let shown = assignments(clash);
-    clash_text(alloc, text, checked, first.as_slice(), shown, location)
+    let text = clash_text(alloc, text, checked, first.as_slice(), shown, location)?;
+    Ok(text)
 }
 
 /// What is printed of the assignments by which the run of a specification ends.

@@ -1,5 +1,5 @@
 //! The text of the assignments by which a run ends.
-ghost use Rattle.std.specs.Prelude.{◌≡◌, ◌∷◌, ◌++◌, ◌<◌, ◌≤◌, [], length, IfOk, OnOk, IsFalse, IsTrue};
+ghost use Rattle.std.specs.Prelude.{◌≡◌, ◌∷◌, ◌+◌, ◌++◌, ◌<◌, ◌≤◌, [], length, IfOk, OnOk, IsFalse, IsTrue};
 ghost use Rattle.asm_reader.specs.ScriptText.{max_script};
 ghost use Rattle.asm_explore_report.specs.Comments.{comment, comments as comments_of};
 ghost use Rattle.asm_explore_run.specs.ClashText.{IsClashText, more};
@@ -67,7 +67,8 @@ pub(crate) fn clash_text(
     for k in 0..assignments.len() {
         let line = assignment_line(alloc, text, checked, &assignments[k], location)?;
         let rest = assignments.len() - k;
-        if !add_if_it_fits(alloc, &mut shown, line.as_slice(), rest - 1)? {
+        let fits = add_if_it_fits(alloc, &mut shown, line.as_slice(), rest - 1)?;
+        if !fits {
             add_rest(alloc, &mut shown, rest)?;
             return Ok(shown);
         }

@@ -1,5 +1,5 @@
 use Rattle.std.proofs.Common.{subst, sym}
-use Rattle.asm_explore_random.specs.CheckedQuestions.{AreAllAsked}
+use Rattle.asm_explore_report.specs.AskedConditions.{AreAllAsked}
 use Rattle.asm_explore_texts.specs.Conditions.{texts_of}
 use Rattle.asm_explore_random.proofs.random_asked.ask_random.Goals as goal
 

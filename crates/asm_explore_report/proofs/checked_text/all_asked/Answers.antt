@@ -1,7 +1,7 @@
 use Rattle.std.proofs.Common.{◌≡◌, length, ℕ, subst, arith}
 use Rattle.asm_explore_texts.specs.Conditions.{AreConditionsOf, texts_of}
 use Rattle.asm_explore_report.proofs.AndLinks.{ands_of}
-use Rattle.asm_explore_report.proofs.checked_question.all_asked.Goals as goal
+use Rattle.asm_explore_report.proofs.checked_text.all_asked.Goals as goal
 
 pub returns : goal.returns
 returns c =

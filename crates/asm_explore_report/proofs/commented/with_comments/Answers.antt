@@ -9,7 +9,7 @@ use Rattle.asm_explore_report.proofs.commented.with_comments.Goals as goal
 
 pub returns-in_err-add_entry-clause-refused : goal.returns-in_err-add_entry-clause-refused
 returns-in_err-add_entry-clause-refused c =
-    let p = err_from_is_err_and c.from_residual.result c.from_residual.ensures.1 in
+    let p = err_from_is_err_and c.from_residual-in_err-add_entry.result c.from_residual-in_err-add_entry.ensures.1 in
     let e = c.in_err-add_entry.field-0.0 in
     let one = c.index-entries-i.result in
     let refused = subst (λ (entry : Entry). IsTextRefusal (numbers_of_line (line_said entry.line)) (line_text (line_said entry.line)) e) c.index-entries-i.is c.in_err-add_entry.ensures.refused in

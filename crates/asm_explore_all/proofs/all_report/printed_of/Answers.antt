@@ -1,0 +1,28 @@
+use Rattle.std.proofs.Common.{◌≡◌, ◌∙◌, List, ℕ, Option, ap, subst}
+use Rattle.asm_explore_report.specs.Comments.{lines_of}
+use Rattle.asm_explore_report.specs.Printed.{IsPrinted}
+use Rattle.asm_explore_report.specs.ShownRuns.{Shown}
+use Rattle.asm_explore_all.specs.AllFacts.{shown_in}
+use Rattle.asm_explore_all.specs.FindingLine.{first_line}
+use Rattle.asm_explore_all.proofs.all_report.printed_of.Goals as goal
+
+pub returns : goal.returns
+returns g c links joined =
+    let finding = c.args.answered.now.finding in
+    let turns = c.args.asked.now.question.turns in
+    let words = c.in_ok-words.words.items in
+    let asks = c.args.settings.now.trace in
+    let whole = c.in_ok-whole.whole.items in
+    let facts = lines_of c.in_ok-facts.facts.items in
+    let Prints = IsPrinted c.args.text.now turns asks in
+    let first : c.as_slice-2.result.now ≡ first_line finding words = c.as_slice-2.ensures.value ∙ (c.in_ok-first.ensures ∙ ap (first_line finding) c.as_slice.ensures.value) in
+    let others : lines_of c.as_slice-3.result.now ≡ facts = ap lines_of c.as_slice-3.ensures.value in
+    let by_run = subst (λ (run : Option Shown). Prints c.as_slice-2.result.now (lines_of c.as_slice-3.result.now) run whole) c.shown_run.ensures c.in_ok-whole.ensures in
+    let by_first = subst (λ (l : List ℕ). Prints l (lines_of c.as_slice-3.result.now) (shown_in finding) whole) first by_run in
+    record {
+      words = words;
+      tell = c.in_ok-words.ensures links joined;
+      facts = facts;
+      are_facts = c.in_ok-facts.ensures;
+      are_printed = subst (λ (ls : List (List ℕ)). Prints (first_line finding words) ls (shown_in finding) whole) others by_first;
+    }
