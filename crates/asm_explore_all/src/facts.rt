@@ -48,10 +48,7 @@ fn add_conditions(
 }
 
 /// Which faults are looked for.
-fn all_looked_for_line(
-    alloc: Global,
-    conditions: &Conditions<'_>,
-) -> Result<String, AllocError>
+fn all_looked_for_line(alloc: Global, conditions: &Conditions<'_>) -> Result<String, AllocError>
     ensures { IfOk result (λ line. string_bytes line ≡ all_looked_for conditions.now) }
 {
     let mut line = looked_for(alloc, conditions.always.len())?;

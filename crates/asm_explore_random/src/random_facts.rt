@@ -46,11 +46,7 @@ fn add_number(alloc: Global, lines: &mut Vec<Vec<u8>>, run: u32) -> Result<(), A
 }
 
 /// Adds that the run may be longer than it need be, if that is so.
-fn add_longer(
-    alloc: Global,
-    lines: &mut Vec<Vec<u8>>,
-    shortest: bool,
-) -> Result<(), AllocError>
+fn add_longer(alloc: Global, lines: &mut Vec<Vec<u8>>, shortest: bool) -> Result<(), AllocError>
     ensures { OnOk result (lines_of lines.new.items ≡ lines_of lines.old.items ++ longer_lines shortest) }
 {
     if shortest {

@@ -1,7 +1,7 @@
 -- Free. What is printed spells the script that is found.
 --     printed_says      comments before a script, unless even the first one alone is too many
 use Rattle.std.proofs.Common.{ℕ, List, ◌∷◌, ◌++◌, inl, inr, sym, subst}
-use Rattle.std.specs.Prelude.{◌⊎◌, ◌<◌, ◌≤◌, length}
+use Rattle.std.specs.Prelude.{◌⊎◌, ◌<◌, length}
 use Rattle.asm_reader.specs.ScriptLines.{Script}
 use Rattle.asm_reader.specs.ScriptText.{IsScript, max_script}
 use Rattle.asm_explore_report.specs.Printed.{IsReportText, behind_first, left_out, no_comments, no_trace}

@@ -4,7 +4,7 @@
 --                                  are plain, and else between apostrophes
 --     file_word name               the word for a file's name, which never begins with a hyphen
 --     command steps turns name     the line; 1,000 turns and standard input aren't named
-use Rattle.std.specs.Prelude.{ℕ, Bool, true, false, ◌==◌, ◌&&◌, ◌||◌, not, cond, List, [], ◌∷◌, ◌++◌, codes, decimal}
+use Rattle.std.specs.Prelude.{ℕ, Bool, ◌==◌, cond, List, [], ◌∷◌, ◌++◌, codes, decimal}
 use Rattle.std.specs.List.{flat_map, list_all, list_any}
 use Rattle.std.specs.Str.{bytes_eq}
 

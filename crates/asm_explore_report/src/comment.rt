@@ -42,11 +42,7 @@ pub fn add_comments(text: &mut Vec<u8>, lines: &[Vec<u8>]) -> Result<(), AllocEr
 }
 
 /// A first comment and others, each in a line of its own.
-pub fn comments(
-    alloc: Global,
-    first: &[u8],
-    others: &[Vec<u8>],
-) -> Result<Vec<u8>, AllocError>
+pub fn comments(alloc: Global, first: &[u8], others: &[Vec<u8>]) -> Result<Vec<u8>, AllocError>
     ensures { IfOk result (λ text. text.items ≡ comments.comments (first.now ∷ comments.lines_of others.now)) }
 {
     let mut text = Vec::new(alloc);

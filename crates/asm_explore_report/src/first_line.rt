@@ -21,12 +21,7 @@ fn place(alloc: Global, fault: Fault, step: u64) -> Result<String, AllocError>
 }
 
 /// The line of a fault of a step, which these words describe.
-pub fn of_fault(
-    alloc: Global,
-    fault: Fault,
-    step: u64,
-    words: &[u8],
-) -> Result<Vec<u8>, AllocError>
+pub fn of_fault(alloc: Global, fault: Fault, step: u64, words: &[u8]) -> Result<Vec<u8>, AllocError>
     ensures { IfOk result (λ line. line.items ≡ fault_line fault step words.now) }
 {
     let place = place(alloc, fault, step)?;

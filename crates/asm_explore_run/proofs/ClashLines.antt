@@ -1,7 +1,7 @@
 -- Free. Comments for assignments, one after the other.
 --     one_more      a comment after others
 --     with_rest     comments after others
-use Rattle.std.proofs.Common.{◌≡◌, ◌∙◌, ℕ, List, [], ◌∷◌, ◌++◌, sym, ap, append_assoc, append-nil}
+use Rattle.std.proofs.Common.{◌≡◌, ◌∙◌, ℕ, List, [], ◌∷◌, ◌++◌, sym, ap, append-nil}
 use Rattle.std.proofs.lemmas.Grind.{flat_map-append}
 use Rattle.asm_explore_report.specs.Comments.{comment, comments}
 

@@ -1,8 +1,8 @@
 //! What is said of an assignment.
 use crate::choose_line::push_values;
-use asm_explore_report::value_text::push_value;
 use asm_check::Checked;
 use asm_clash::assignment::Assignment;
+use asm_explore_report::value_text::push_value;
 use asm_explore_texts::path_text::{push_path, push_position};
 use asm_explore_texts::rule_in_text::{RuleInText, rule_in_text};
 use asm_state::word::Word;
@@ -29,11 +29,24 @@ pub(crate) fn assignment_line(
     line.extend_from_slice(b"place ")?;
     push_path(alloc, &mut line, path)?;
     line.extend_from_slice(b": ")?;
-    push_location(alloc, &mut line, checked, &place, assignment.arguments.as_slice(), location)?;
+    push_location(
+        alloc,
+        &mut line,
+        checked,
+        &place,
+        assignment.arguments.as_slice(),
+        location,
+    )?;
     line.extend_from_slice(b" := ")?;
     push_value(alloc, &mut line, checked, assignment.value.value())?;
     if let Some(place) = &place {
-        push_bound(alloc, &mut line, checked, place, assignment.bound.as_slice())?;
+        push_bound(
+            alloc,
+            &mut line,
+            checked,
+            place,
+            assignment.bound.as_slice(),
+        )?;
     }
     Ok(line)
 }

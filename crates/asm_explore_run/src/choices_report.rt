@@ -147,7 +147,14 @@ fn reported<'w>(
     let first = ended.line(alloc, settings.steps)?;
     let unmet = unmet_lines(alloc, script_text, run)?;
     let status = status_of(ended.end, unmet.is_empty());
-    let text = printed(alloc, text, checked, first.as_slice(), run, unmet.as_slice())?;
+    let text = printed(
+        alloc,
+        text,
+        checked,
+        first.as_slice(),
+        run,
+        unmet.as_slice(),
+    )?;
     Ok(Report { text, status })
 }
 

@@ -1,6 +1,6 @@
 //! The comment for a choice.
-use asm_explore_report::value_text::push_value;
 use asm_check::Checked;
+use asm_explore_report::value_text::push_value;
 use asm_explore_texts::path_text::{push_path, push_position};
 use asm_explore_texts::rule_in_text::rule_in_text;
 use asm_state::word::Word;

@@ -1,4 +1,4 @@
-use Rattle.std.proofs.Common.{◌≡◌, ◌∙◌, ◌∷◌, ◌++◌, [], List, ℕ, ap, append_assoc, codes}
+use Rattle.std.proofs.Common.{◌∙◌, ◌∷◌, ◌++◌, [], List, ℕ, ap, append_assoc, codes}
 use Rattle.asm_explore_report.specs.Comments.{lines_of}
 use Rattle.asm_explore_all.specs.AllFacts.{count_line}
 use Rattle.asm_explore_all.proofs.facts.add_counts.Goals as goal

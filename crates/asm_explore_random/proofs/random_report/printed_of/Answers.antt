@@ -1,7 +1,7 @@
 use Rattle.std.proofs.Common.{◌≡◌, ◌∙◌, List, ℕ, Option, ap, subst}
 use Rattle.asm_explore_report.specs.Comments.{lines_of}
 use Rattle.asm_explore_report.specs.Printed.{IsPrinted}
-use Rattle.asm_explore_report.specs.ShownRuns.{Shown, shown_of}
+use Rattle.asm_explore_report.specs.ShownRuns.{Shown}
 use Rattle.asm_explore_random.specs.RandomFacts.{random_facts, shown_in}
 use Rattle.asm_explore_random.specs.RandomReport.{random_line}
 use Rattle.asm_explore_random.proofs.random_report.printed_of.Goals as goal

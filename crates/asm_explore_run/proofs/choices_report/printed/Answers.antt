@@ -1,7 +1,6 @@
-use Rattle.std.proofs.Common.{◌≡◌, ◌∙◌, ◌<◌, length, inl, inr, ap, sym, arith}
+use Rattle.std.proofs.Common.{◌<◌, length, inr, ap, arith}
 use Rattle.std.proofs.lemmas.Result.{IfOk-weaker}
 use Rattle.asm_explore.specs.RunChoices.{choices_in, lines_forward}
-use Rattle.asm_explore.specs.code.WrittenScripts.{lines_said}
 use Rattle.asm_explore_run.proofs.ShortLines.{said_length, too_many}
 use Rattle.asm_explore_run.proofs.choices_report.printed.Goals as goal
 

@@ -10,7 +10,7 @@ returns g c = record {
   conditions = c.in_ok-conditions.conditions;
   given = c.in_ok-conditions.ensures;
   report = c.in_ok-report.report;
-  reported = subst (λ t. IsReported t c.in_ok-conditions.conditions c.args.settings.now c.in_ok-report.report) c.as_slice.ensures.value c.in_ok-report.ensures;
+  reported = subst (λ t. IsReported t c.in_ok-conditions.conditions c.args.settings.now c.in_ok-report.report) c.as_slice-text.ensures.value c.in_ok-report.ensures;
   status_is = refl;
-  appended = subst (λ t. Appends (g.O.Write.contents c.args.out.now) (g.O.Write.contents c.written.new.out) t) c.as_slice-2.ensures.value c.in_ok-written.ensures;
+  appended = subst (λ t. Appends (g.O.Write.contents c.args.out.now) (g.O.Write.contents c.written.new.out) t) c.as_slice.ensures.value c.in_ok-written.ensures;
 }
