@@ -46,14 +46,14 @@ module _ (old more new : List Node) (is : new ≡ old ++ more) (k : ℕ) (n : No
               deeper = f.deeper;
             }
         | inr late ↦ record {
-            number = k;
-            earlier = n;
-            there = at_more old more new is k n there;
-            onward = s;
-            shown = subst (λ j. slice_get (made ++ s ∷ []) j ≡ Some s) count (slice_last made s);
-            leads = leads i late.0 (slice_get_within new i m here);
-            deeper = late.1;
-          }
+          number = k;
+          earlier = n;
+          there = at_more old more new is k n there;
+          onward = s;
+          shown = subst (λ j. slice_get (made ++ s ∷ []) j ≡ Some s) count (slice_last made s);
+          leads = leads i late.0 (slice_get_within new i m here);
+          deeper = late.1;
+        }
       ]
 
   pub next_more : DepthsRise new → AreShallow (n.depth + 1) new → (m : Node) → slice_get new (k + 1) ≡ Some m → AreShallow (m.depth + 1) new

@@ -1,7 +1,8 @@
 -- Free. How many steps lead to the states of a graph.
 --     known_or_crowded    a run comes to the state of a node that is as deep as the run has steps,
 --                         or less, unless it passes a crowded one
---     are_least           so no run of fewer steps comes to the state of a node, unless it does
+--     is_complete         so all states that runs come to are those of nodes, unless they do
+--     are_least           and no run of fewer steps comes to the state of a node, unless it does
 use Rattle.std.proofs.Common.{◌≡◌, ℕ, zero, suc, ◌+◌, ◌≤◌, ◌<◌, ◌⊎◌, Bool, true, false, cond, List, [], ◌∷◌, length, map, inl, inr, refl, sym, ap, subst, ◌∙◌, arith}
 use Rattle.std.proofs.lemmas.Bool.{false≢true}
 use Rattle.std.specs.Prelude.{slice_get, Some}
@@ -26,7 +27,7 @@ use Rattle.asm_graph.specs.declared.graph.Node.{Node}
 use Rattle.asm_graph.specs.declared.graph.Step.{Step}
 use Rattle.asm_graph.specs.declared.graph.Step.TheVariants as step
 use Rattle.asm_graph.specs.declared.graph.StepFault.{StepFault}
-use Rattle.asm_graph.specs.Graphs.{AreApart, GoesTo, HasFault, IsCrowded, IsLeast, IsShown, Pairs, StandsAt, state_at}
+use Rattle.asm_graph.specs.Graphs.{AreApart, ComesTo, GoesTo, HasFault, IsComplete, IsCrowded, IsLeast, IsShown, Pairs, PassesCrowd, StandsAt, state_at}
 use Rattle.asm_graph.specs.code.GraphSoFar.{AreNear, AreShallow, IsNear}
 use Rattle.asm_graph.proofs.Paired.{apart_same, each_got, got_mapped, got_same, pairs_at}
 
@@ -99,7 +100,7 @@ module _ (specification : Specification) (turns : ℕ) where
       step_on n i d A U gives consistent stays ends next =
           let o : Outcome = does specification.program turns script i A nothing_bound [] specification.main in
           let last : (k : ℕ) → (runs (suc k) i A).last ≡ (runs k (suc i) (fire A U)).last =
-              λ k. on_last o.instances i A (λ V. runs k (suc i) (fire A V)) o.result U gives consistent in
+          λ k. on_last o.instances i A (λ V. runs k (suc i) (fire A V)) o.result U gives consistent in
           let end = on_end o.instances i A (λ V. runs n (suc i) (fire A V)) o.result U gives consistent in
           elim (next (λ k less. ap within (sym (last k)) ∙ stays (suc k) (omega (arith, less))) (sym end ∙ ends)) [
             | inl known ↦ inl (known.0, known.1, known.2, omega (arith, known.3), known.4 ∙ sym (last n))
@@ -132,22 +133,38 @@ module _ (specification : Specification) (turns : ℕ) where
           (λ B there inside fine. known_or_crowded n (suc i) (suc d) B (omega (arith, low)) there inside fine)
           here.0 here.1 here.2 (subst (AreNear nodes known.1) (got_same made known.0 close.0 here.0 close.1 here.1) close.2)
 
-    module _ (begins : StandsAt shape nodes 0 specification.initial) (at_first : begins.0.depth ≡ 0) (apart : AreApart (map (state_at shape) nodes)) where
-      least : (i : ℕ) (n : Node) → slice_get nodes i ≡ Some n → n.depth ≤ steps → IsLeast shape specification turns within nodes made n
-      least i n there shallow script k less stays ends last =
-          elim (known_or_crowded script k 1 0 specification.initial (omega (arith, less, shallow)) (0, begins.0, begins.1, omega (arith, at_first), begins.2) stays ends) [
-            | inl known ↦
-                let here = got_mapped (state_at shape) nodes known.0 known.1 known.2 in
-                let same = apart_same (map (state_at shape) nodes) known.0 i (state_at shape n) apart (subst (λ A. slice_get (map (state_at shape) nodes) known.0 ≡ Some A) (known.4 ∙ last) here)
-                    (got_mapped (state_at shape) nodes i n there) in
-                let one = got_same nodes i known.1 n (subst (λ j. slice_get nodes j ≡ Some known.1) same known.2) there in
-                absurd (omega (arith, less, known.3, ap (λ (m : Node). m.depth) one))
-            | inr crowd ↦ crowd
+    module _ (begins : StandsAt shape nodes 0 specification.initial) (at_first : begins.0.depth ≡ 0) where
+      known_after : (script : Script) (k : ℕ) (A : State) → k ≤ steps → ComesTo shape specification turns within script k A → Known k A ⊎ PassesCrowd shape specification turns within nodes made script k
+      known_after script k A low comes =
+          elim (known_or_crowded script k 1 0 specification.initial (omega (arith, low)) (0, begins.0, begins.1, omega (arith, at_first), begins.2) comes.stays comes.end) [
+            | inl known ↦ inl (known.0, known.1, known.2, omega (arith, known.3), known.4 ∙ comes.last)
+            | inr crowd ↦ inr crowd
           ]
 
-      each_least : (ns : List Node) → ((i : ℕ) (n : Node) → slice_get ns i ≡ Some n → (j : ℕ) × (slice_get nodes j ≡ Some n)) → AreShallow steps ns → Each (IsLeast shape specification turns within nodes made) ns
-      each_least [] among shallow = tt
-      each_least (n ∷ ns) among shallow = (least (among 0 n refl).0 n (among 0 n refl).1 shallow.0, each_least ns (λ i m there. among (suc i) m there) shallow.1)
+      pub is_complete : IsComplete shape specification turns within nodes made steps
+      is_complete script k A low comes =
+          elim (known_after script k A low comes) [
+            | inl known ↦ inl (known.0, (known.1, known.2, known.4))
+            | inr crowd ↦ inr crowd
+          ]
 
-      pub are_least : AreShallow steps nodes → Each (IsLeast shape specification turns within nodes made) nodes
-      are_least shallow = each_least nodes (λ i n there. (i, there)) shallow
+      module _ (apart : AreApart (map (state_at shape) nodes)) where
+        least : (i : ℕ) (n : Node) → slice_get nodes i ≡ Some n → n.depth ≤ steps → IsLeast shape specification turns within nodes made n
+        least i n there shallow script k less comes =
+            elim (known_after script k (state_at shape n) (omega (arith, less, shallow)) comes) [
+              | inl known ↦
+                  let here = got_mapped (state_at shape) nodes known.0 known.1 known.2 in
+                  let same = apart_same (map (state_at shape) nodes) known.0 i (state_at shape n) apart (subst (λ A. slice_get (map (state_at shape) nodes) known.0 ≡ Some A) known.4 here)
+                  (got_mapped (state_at shape) nodes i n there) in
+                  let one = got_same nodes i known.1 n (subst (λ j. slice_get nodes j ≡ Some known.1) same known.2) there in
+                  absurd (omega (arith, less, known.3, ap (λ (m : Node). m.depth) one))
+              | inr crowd ↦ crowd
+            ]
+
+        each_least : (ns : List Node) → ((i : ℕ) (n : Node) → slice_get ns i ≡ Some n → (j : ℕ) × (slice_get nodes j ≡ Some n)) → AreShallow steps ns
+            → Each (IsLeast shape specification turns within nodes made) ns
+        each_least [] among shallow = tt
+        each_least (n ∷ ns) among shallow = (least (among 0 n refl).0 n (among 0 n refl).1 shallow.0, each_least ns (λ i m there. among (suc i) m there) shallow.1)
+
+        pub are_least : AreShallow steps nodes → Each (IsLeast shape specification turns within nodes made) nodes
+        are_least shallow = each_least nodes (λ i n there. (i, there)) shallow

@@ -54,9 +54,9 @@ module _ (depth : ℕ) (old more new : List Node) (is : new ≡ old ++ more) (de
   rise_more rise i j m n low here there =
       elim (later_got (λ (n : Node). n.depth ≡ depth) old more j n deep (subst (λ ns. slice_get ns j ≡ Some n) is there)) [
         | inl first ↦ elim (later_got (λ (n : Node). n.depth ≡ depth) old more i m deep (subst (λ ns. slice_get ns i ≡ Some m) is here)) [
-            | inl early ↦ rise i j m n low early first
-            | inr late ↦ absurd (omega (arith, low, late.0, slice_get_within old j n first))
-          ]
+          | inl early ↦ rise i j m n low early first
+          | inr late ↦ absurd (omega (arith, low, late.0, slice_get_within old j n first))
+        ]
         | inr last ↦ omega (arith, last.1, each_got (λ (n : Node). n.depth ≤ depth) new i m shallow_more here)
       ]
 
@@ -107,7 +107,7 @@ pub none_new : (nodes : List Node) (P : ℕ → Type 0) → AreNew nodes nodes P
 none_new nodes P i past low = absurd (omega (arith, past, low))
 
 pub new_both : (old mid new : List Node) (P : ℕ → Type 0) → AreNew old mid P → AreNew mid new P → AreNew old new P
-new_both old mid new P first then i past low = elim (cases_lt i (length mid)) [ | inl below ↦ first i past below | inr above ↦ then i above low ]
+new_both old mid new P first then i past low = elim (cases_lt i (length mid)) [ inl below ↦ first i past below | inr above ↦ then i above low ]
 
 -- ---- what leads to nodes
 

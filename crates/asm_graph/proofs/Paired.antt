@@ -29,7 +29,7 @@ module _ {X : Type 0} (P : X → Type 0) where
   pub later_got : (xs ys : List X) (i : ℕ) (x : X) → Each P ys → slice_get (xs ++ ys) i ≡ Some x → (slice_get xs i ≡ Some x) ⊎ ((length xs ≤ i) × P x)
   later_got [] ys i x h there = inr (omega arith, each_got ys i x h there)
   later_got (y ∷ xs) ys zero x h there = inl there
-  later_got (y ∷ xs) ys (suc i) x h there = elim (later_got xs ys i x h there) [ | inl first ↦ inl first | inr last ↦ inr (omega (arith, last.0), last.1) ]
+  later_got (y ∷ xs) ys (suc i) x h there = elim (later_got xs ys i x h there) [ inl first ↦ inl first | inr last ↦ inr (omega (arith, last.0), last.1) ]
 
   pub each_take_more : (xs : List X) (k : ℕ) (x : X) → k < length xs → x ≡ get_or xs k x → Each P (take k xs) → P x → Each P (take (k + 1) xs)
   each_take_more xs k x low is h here =

@@ -22,7 +22,7 @@ use Rattle.asm_graph.specs.declared.graph.Step.{Step}
 use Rattle.asm_graph.specs.declared.graph.Step.TheVariants as step
 use Rattle.asm_graph.specs.Graphs.{AreFound, IsGraph, IsNode, IsRefusal, IsShown, Pairs, StandsAt, state_at}
 use Rattle.asm_graph.specs.code.GraphSoFar.{AreNear, AreNodesRight, IsNodeRight}
-use Rattle.asm_graph.proofs.LeastDepths.{are_least}
+use Rattle.asm_graph.proofs.LeastDepths.{are_least, is_complete}
 use Rattle.asm_graph.proofs.RunsAlongChoices.{led_reached}
 use Rattle.asm_graph.proofs.Paired.{each_weaker, got_same, pairs_length, pairs_weaker}
 
@@ -41,6 +41,7 @@ module _ (shape : Shape) (specification : Specification) (turns : ℕ) (within :
         (λ n h. record { reached = led_reached makes specification turns within n.depth (state_at shape n) h.led; is_right = h.is_right; is_rest = h.is_rest }) graph.nodes.items kept.each;
     onward = shown;
     found = found;
+    complete = is_complete specification turns shape within crowds steps graph.nodes.items graph.steps.items shown near begins shallow;
     least = are_least specification turns shape within crowds steps graph.nodes.items graph.steps.items shown near begins shallow kept.apart kept.shallow;
     apart = kept.apart;
     rise = kept.rise;
@@ -65,6 +66,7 @@ module _ (shape : Shape) (specification : Specification) (turns : ℕ) (within :
     onward = pairs_weaker (IsShown shape specification turns within crowds steps graph.nodes.items) (IsShown shape specification turns within throngs steps graph.nodes.items)
         (shown_otherwise crowds throngs f steps graph.nodes.items) graph.nodes.items graph.steps.items h.onward;
     found = h.found;
+    complete = h.complete;
     least = h.least;
     apart = h.apart;
     rise = h.rise;

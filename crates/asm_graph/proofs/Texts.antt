@@ -77,8 +77,8 @@ cut_short f xs i d line low full one =
     let before = flat_map f (take i xs) in
     let rest = flat_map f (drop (suc i) xs) in
     let whole : flat_map f xs ≡ before ++ line ∷ rest =
-        ap (flat_map f) (sym (take-append-drop i xs)) ∙ flat_map-append f (take i xs) (drop i xs)
-        ∙ ap (λ ys. before ++ flat_map f ys) (drop-cons xs i d low) ∙ ap (λ ls. before ++ (ls ++ rest)) one in
+    ap (flat_map f) (sym (take-append-drop i xs)) ∙ flat_map-append f (take i xs) (drop i xs)
+    ∙ ap (λ ys. before ++ flat_map f ys) (drop-cons xs i d low) ∙ ap (λ ls. before ++ (ls ++ rest)) one in
     ap shortened whole ∙ cut_by before line rest full (nat_le (length (before ++ line ∷ rest)) 12) refl
 
 -- ---- pieces that are written one after the other
@@ -112,9 +112,9 @@ node_lines_next s nodes steps i n step start old new low paired is_node is_step 
     let count : length (take i nodes) ≡ i = length-take-le i nodes (omega (arith, low)) in
     let same : length (take i steps) ≡ length (take i nodes) = length-take-le i steps (omega (arith, low, paired)) ∙ sym count in
     let whole : node_lines s 0 (take (i + 1) nodes) (take (i + 1) steps) ≡ node_lines s 0 (take i nodes) (take i steps) ++ node_line s i n step =
-        ap (λ ns. node_lines s 0 ns (take (i + 1) steps)) (one_more nodes i n low is_node)
-        ∙ ap (node_lines s 0 (take i nodes ++ n ∷ [])) (one_more steps i step (omega (arith, low, paired)) is_step)
-        ∙ node_lines_more s 0 (take i nodes) (take i steps) n step same ∙ ap (λ j. node_lines s 0 (take i nodes) (take i steps) ++ node_line s j n step) (omega (arith, count)) in
+    ap (λ ns. node_lines s 0 ns (take (i + 1) steps)) (one_more nodes i n low is_node)
+    ∙ ap (node_lines s 0 (take i nodes ++ n ∷ [])) (one_more steps i step (omega (arith, low, paired)) is_step)
+    ∙ node_lines_more s 0 (take i nodes) (take i steps) n step same ∙ ap (λ j. node_lines s 0 (take i nodes) (take i steps) ++ node_line s j n step) (omega (arith, count)) in
     is_new ∙ ap (λ t. t ++ node_line s i n step) is_old ∙ append_assoc start (node_lines s 0 (take i nodes) (take i steps)) (node_line s i n step) ∙ ap (λ t. start ++ t) (sym whole)
 
 pub edge_lines_next : (steps : List Step) (i : ℕ) (step : Step) (start old new : List ℕ) → i < length steps → step ≡ get_or steps i step
@@ -122,8 +122,8 @@ pub edge_lines_next : (steps : List Step) (i : ℕ) (step : Step) (start old new
 edge_lines_next steps i step start old new low is_step is_old is_new =
     let count : length (take i steps) ≡ i = length-take-le i steps (omega (arith, low)) in
     let whole : edge_lines 0 (take (i + 1) steps) ≡ edge_lines 0 (take i steps) ++ step_lines i step =
-        ap (edge_lines 0) (one_more steps i step low is_step) ∙ edge_lines_more 0 (take i steps) step
-        ∙ ap (λ j. edge_lines 0 (take i steps) ++ step_lines j step) (omega (arith, count)) in
+    ap (edge_lines 0) (one_more steps i step low is_step) ∙ edge_lines_more 0 (take i steps) step
+    ∙ ap (λ j. edge_lines 0 (take i steps) ++ step_lines j step) (omega (arith, count)) in
     is_new ∙ ap (λ t. t ++ step_lines i step) is_old ∙ append_assoc start (edge_lines 0 (take i steps)) (step_lines i step) ∙ ap (λ t. start ++ t) (sym whole)
 
 pub fault_shown : (steps : List Step) (f : StepFault) (start : List ℕ) → list_any (has_fault f) steps ≡ true

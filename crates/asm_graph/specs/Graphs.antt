@@ -17,8 +17,12 @@
 --                          less deep
 --     AreFound nodes       each but the first does
 --     IsCrowded A          the state is that of a node whose step has too many outcomes to be shown
+--     ComesTo script k A   the run of `k` steps under the script comes to the state
+--     PassesCrowd          before its last step a run passes a crowded state
 --     IsLeast n            no run of fewer steps than the node is deep comes to its state, unless
 --                          it passes a crowded one
+--     IsComplete steps     each state that a run of at most `steps` steps comes to is that of a
+--                          node, unless it passes a crowded one
 --     IsGraph graph        what is said of a graph
 --     AreTooMany           more states than are shown at most, each of which a run comes to
 --     IsRefusal e          why there is no graph
@@ -134,14 +138,23 @@ module _ (shape : Shape) (specification : Specification) (turns : ℕ) (within :
     pub is_right : n.right ≡ right (state_at shape n)
     pub is_rest : n.rests ≡ rests (state_at shape n)
 
-  -- What the step from a crowded state leads to isn't shown. A run that passes one may come in
-  -- fewer steps to a state that the graph shows by a longer way; each other run takes as many
-  -- steps as the node is deep, or more.
-  abbrev pub IsLeast : List Node → List Step → Node → Type 0
-  IsLeast nodes steps n =
-      (script : Script) (k : ℕ) → k < n.depth → StaysWithin specification turns within script k
-      → (run specification turns script k).end ≡ AtLimit → (run specification turns script k).last ≡ state_at shape n
-      → (j : ℕ) × (j < k) × IsCrowded shape nodes steps (run specification turns script j).last
+  -- the run of `k` steps, by way of states that runs are followed from
+  pub record ComesTo (script : Script) (k : ℕ) (A : State) : Type 0 where
+    pub stays : StaysWithin specification turns within script k
+    pub end : (run specification turns script k).end ≡ AtLimit
+    pub last : (run specification turns script k).last ≡ A
+
+  module _ (nodes : List Node) (made : List Step) where
+    -- What the step from a crowded state leads to isn't shown. So a run that passes one may come to
+    -- a state that the graph doesn't show, or shows by a longer way.
+    abbrev pub PassesCrowd : Script → (k : ℕ) → Type 0
+    PassesCrowd script k = (j : ℕ) × (j < k) × IsCrowded shape nodes made (run specification turns script j).last
+
+    abbrev pub IsLeast : Node → Type 0
+    IsLeast n = (script : Script) (k : ℕ) → k < n.depth → ComesTo script k (state_at shape n) → PassesCrowd script k
+
+    abbrev pub IsComplete : (steps : ℕ) → Type 0
+    IsComplete steps = (script : Script) (k : ℕ) (A : State) → k ≤ steps → ComesTo script k A → ((i : ℕ) × StandsAt shape nodes i A) ⊎ PassesCrowd script k
 
   -- at most `most` states are shown
   pub record IsGraph (crowds : State → RuleOverLimit → Type 0) (steps most : ℕ) (right rests : State → Bool) (graph : Graph) : Type 0 where
@@ -150,6 +163,7 @@ module _ (shape : Shape) (specification : Specification) (turns : ℕ) (within :
     pub each : Each (IsNode right rests) graph.nodes.items
     pub onward : Pairs (IsShown crowds steps graph.nodes.items) graph.nodes.items graph.steps.items
     pub found : AreFound graph.nodes.items graph.steps.items
+    pub complete : IsComplete graph.nodes.items graph.steps.items steps
     pub least : Each (IsLeast graph.nodes.items graph.steps.items) graph.nodes.items
     pub apart : AreApart (map (state_at shape) graph.nodes.items)
     pub rise : DepthsRise graph.nodes.items

@@ -177,12 +177,7 @@ fn add_end(alloc: Global, dot: &mut String, to: EdgeEnd) -> Result<(), AllocErro
 }
 
 /// Adds the line of an edge.
-fn add_edge(
-    alloc: Global,
-    dot: &mut String,
-    number: usize,
-    edge: &Edge,
-) -> Result<(), AllocError>
+fn add_edge(alloc: Global, dot: &mut String, number: usize, edge: &Edge) -> Result<(), AllocError>
     ensures { OnOk result (string_bytes dot.new ≡ string_bytes dot.old ++ text.edge_line number edge.now) }
 {
     let head = format!(in alloc; "  s{number} -> ")?;
@@ -210,12 +205,7 @@ fn add_edges(
 }
 
 /// Adds the lines of the edges from a node, if they are shown.
-fn add_step(
-    alloc: Global,
-    dot: &mut String,
-    number: usize,
-    step: &Step,
-) -> Result<(), AllocError>
+fn add_step(alloc: Global, dot: &mut String, number: usize, step: &Step) -> Result<(), AllocError>
     ensures { OnOk result (string_bytes dot.new ≡ string_bytes dot.old ++ text.step_lines number step.now) }
 {
     match step {

@@ -38,10 +38,10 @@ fn graph_of(
     Ok(graph)
 }
 
-/// The graph of the states that the runs of a specification come to, of at most `most` states.
+/// The graph of the states that the runs of a specification come to, if there are at most `most`.
 /// The limit of states in the question isn't looked at. Runs are followed from states in which the
-/// condition isn't true, too. No state is in the graph twice, and each is as deep as the fewest steps
-/// that lead to it, unless fewer lead to it past a state whose step has too many outcomes.
+/// condition isn't true, too. No state is in the graph twice, and each is as deep as the fewest
+/// steps that lead to it, unless fewer lead to it past a state whose step has too many outcomes.
 pub fn state_graph(
     alloc: Global,
     checked: &Checked,

@@ -17,11 +17,7 @@ use asm_state::word::Word;
 use std::alloc::{AllocError, Global};
 
 /// Adds a number.
-pub(crate) fn push_number(
-    alloc: Global,
-    label: &mut Vec<u8>,
-    number: u64,
-) -> Result<(), AllocError>
+pub(crate) fn push_number(alloc: Global, label: &mut Vec<u8>, number: u64) -> Result<(), AllocError>
     ensures { OnOk result (label.new.items ≡ label.old.items ++ decimal number) }
 {
     let digits = format!(in alloc; "{number}")?;
@@ -62,11 +58,7 @@ fn push_element(label: &mut Vec<u8>, checked: &Checked, index: usize) -> Result<
 }
 
 /// Adds the name of the function with this number, if there is one.
-fn push_function(
-    label: &mut Vec<u8>,
-    checked: &Checked,
-    function: usize,
-) -> Result<(), AllocError>
+fn push_function(label: &mut Vec<u8>, checked: &Checked, function: usize) -> Result<(), AllocError>
     ensures { OnOk result (label.new.items ≡ label.old.items ++ function_text (spec_of checked.now.spec) function) }
 {
     signature_numbers();

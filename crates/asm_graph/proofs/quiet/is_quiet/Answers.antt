@@ -12,5 +12,5 @@ returns-in-Edges-clause-back c =
     let i = c.args.number in
     let step = c.args.step.now in
     let same : c.all_lead_to.result ≡ is_quiet i step =
-        c.all_lead_to.ensures ∙ ap (list_all (λ (e : Edge). is_node i e.to)) c.as_slice.ensures.value ∙ ap (is_quiet i) (sym c.in-Edges.is) in
+    c.all_lead_to.ensures ∙ ap (list_all (λ (e : Edge). is_node i e.to)) c.as_slice.ensures.value ∙ ap (is_quiet i) (sym c.in-Edges.is) in
     subst (λ b. IsTrue b ↔ LeadBack i step) (sym same) (quiet_is_back i step)
