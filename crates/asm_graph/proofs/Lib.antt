@@ -1,6 +1,13 @@
 pub mod Paired
 pub mod MoreNodes
+pub mod FoundNodes
 pub mod Outcomes
 pub mod RunsAlongChoices
+pub mod LeastDepths
+pub mod TooMany
 pub mod SameConditions
 pub mod QuietNodes
+pub mod QuietTest
+pub mod Texts
+pub mod ShownContents
+pub mod Quoted

@@ -2,10 +2,10 @@
 --     set_leads, set_fails, path_fails      what an outcome leads to, or its fault
 --     leads_on                              the same of a signature that is the shape
 --     some_situation                        a situation takes the choices of an outcome
---     goes_known, led_on                    the state that it leads to is in a node, and choices
---                                           lead to it
---     outcome_at, edges_are                 the outcomes of a step, and edges that follow them
-use Rattle.std.proofs.Common.{◌≡◌, ℕ, ◌+◌, Bool, true, List, [], ◌∷◌, refl, sym, ap, subst, ◌∙◌, arith}
+--     goes_known, near_known, led_on        the state that it leads to is in a node, which is near,
+--                                           and choices lead to it
+--     outcome_at, edges_are, edges_near     the outcomes of a step, and edges that follow them
+use Rattle.std.proofs.Common.{◌≡◌, ℕ, ◌+◌, ◌≤◌, Bool, true, List, [], ◌∷◌, refl, sym, ap, subst, ◌∙◌, arith}
 use Rattle.std.specs.Prelude.{slice_get, Some}
 use Rattle.asm_state.specs.declared.value.Value.{Value}
 use Rattle.asm_state.specs.code.Contents.{IsStateOf}
@@ -27,11 +27,12 @@ use Rattle.asm_explore.specs.code.ScriptTo.{lines_of}
 use Rattle.asm_explore.specs.Search.{LeadsOn}
 use Rattle.asm_explore.specs.code.StepOutcomes.{IsStep}
 use Rattle.asm_graph.specs.declared.graph.Edge.{Edge}
+use Rattle.asm_graph.specs.declared.graph.EdgeEnd.TheVariants as target
 use Rattle.asm_graph.specs.declared.graph.Node.{Node}
 use Rattle.asm_graph.specs.declared.graph.StepFault.{StepFault}
 use Rattle.asm_graph.specs.declared.graph.StepFault.TheVariants as kind
 use Rattle.asm_graph.specs.Graphs.{AreEdges, GoesTo, HasFault, IsEdge, IsKind, Pairs, StandsAt}
-use Rattle.asm_graph.specs.code.GraphSoFar.{FailsSo, HasContents, IsFollowed, IsLed, IsOutcome, Leads}
+use Rattle.asm_graph.specs.code.GraphSoFar.{AreShallow, FailsSo, HasContents, IsFollowed, IsLed, IsNear, IsOutcome, Leads}
 use Rattle.asm_graph.proofs.Paired.{each_got, pairs_any, pairs_each}
 
 -- ---- one outcome
@@ -103,6 +104,9 @@ goes_known shape A one next nodes k leads there r shows =
     let so = leads.leads r shows in
     record { set = so.set; gives = so.gives; consistent = so.consistent; leads = (there.0, there.1, ap (state_of shape) there.2 ∙ sym so.leads) }
 
+pub near_known : (depth : ℕ) (next : List Value) (nodes : List Node) (k : ℕ) → HasContents nodes k next → AreShallow depth nodes → IsNear nodes depth (target.Node k)
+near_known depth next nodes k there shallow = (there.0, there.1, each_got (λ (n : Node). n.depth ≤ depth) nodes k there.0 shallow there.1)
+
 -- ---- the outcomes of a step
 
 module _ (shape : Shape) (specification : Specification) (turns : ℕ) (A : State) (outcomes : List ListedOutcome) (step : IsStep shape specification turns A outcomes) where
@@ -113,17 +117,17 @@ module _ (shape : Shape) (specification : Specification) (turns : ℕ) (A : Stat
     apart = each_got (λ (f : ListedOutcome). HaveOwnPaths f.choices) outcomes k one step.apart there;
   }
 
-  module _ (nodes : List Node) (edges : List Edge) (follow : Pairs (IsFollowed shape nodes A) outcomes edges) where
+  module _ (nodes : List Node) (depth : ℕ) (edges : List Edge) (follow : Pairs (IsFollowed shape nodes A depth) outcomes edges) where
     pub edges_are : AreEdges shape specification turns nodes A edges
     edges_are = record {
-      each = pairs_each (IsFollowed shape nodes A) (λ (f : ListedOutcome). HaveOwnPaths f.choices × IsSound shape (steps_from specification turns A) f) (IsEdge shape specification turns nodes A)
+      each = pairs_each (IsFollowed shape nodes A depth) (λ (f : ListedOutcome). HaveOwnPaths f.choices × IsSound shape (steps_from specification turns A) f) (IsEdge shape specification turns nodes A)
           (λ f e followed fine. record {
             apart = subst HaveOwnPaths (sym followed.choices) fine.0;
             goes = λ s taken. followed.goes (steps_from specification turns A s) (fine.1 s (subst (AreTaken s) followed.choices taken));
           }) outcomes edges follow (both outcomes step.apart step.lists.sound);
       all = λ s.
           let r = steps_from specification turns A s in
-          pairs_any (IsFollowed shape nodes A) (λ (f : ListedOutcome). Shows shape f.answer r) (λ (e : Edge). GoesTo shape nodes A r e.to) (λ f e followed shows. followed.goes r shows) outcomes edges follow
+          pairs_any (IsFollowed shape nodes A depth) (λ (f : ListedOutcome). Shows shape f.answer r) (λ (e : Edge). GoesTo shape nodes A r e.to) (λ f e followed shows. followed.goes r shows) outcomes edges follow
           (step.lists.complete s);
     }
       where
@@ -131,3 +135,6 @@ module _ (shape : Shape) (specification : Specification) (turns : ℕ) (A : Stat
             → Each (λ (f : ListedOutcome). HaveOwnPaths f.choices × IsSound shape (steps_from specification turns A) f) fs
         both [] h g = tt
         both (f ∷ fs) h g = ((h.0, g.0), both fs h.1 g.1)
+
+    pub edges_near : Each (λ (e : Edge). IsNear nodes depth e.to) edges
+    edges_near = pairs_each (IsFollowed shape nodes A depth) (λ (f : ListedOutcome). HaveOwnPaths f.choices) (λ (e : Edge). IsNear nodes depth e.to) (λ f e followed fine. followed.near) outcomes edges follow step.apart

@@ -1,2 +1,4 @@
 pub mod Graphs
+pub mod Labels
+pub mod Dot
 pub mod code

@@ -1,12 +1,14 @@
 //! The graph is built by a walk through the states, breadth first.
-ghost use Rattle.std.specs.Prelude.{◌≡◌, ◌<◌, ◌≤◌, ◌^◌, ◌⊎◌, [], false, true, length, slice_get, Some, IfOk, IfNone, IfSome, OnOk};
+ghost use Rattle.std.specs.Prelude.{◌≡◌, ◌<◌, ◌≤◌, ◌+◌, ◌^◌, ◌⊎◌, [], false, true, length, slice_get, Some, IfErr, IfOk, IfNone, IfSome, OnOk};
 ghost use Rattle.asm_state.specs.code.Contents.{IsStateOf};
 ghost use Rattle.asm_state.specs.Signature.{count_of, state_of};
 ghost use Rattle.asm_meaning.specs.Yields.{Result as Yielded};
-ghost use Rattle.asm_explore.specs.code.OutcomeLists.{Shows};
+ghost use Rattle.asm_explore.specs.code.OutcomeLists.{AnyOf, Each, Shows};
 ghost use Rattle.asm_explore.specs.code.StepOutcomes.{IsOverLimitOf, IsStep};
-ghost use Rattle.asm_graph.specs.Graphs.{AreEdges, GoesTo, IsGraph, IsShown, Pairs, state_at};
-ghost use Rattle.asm_graph.specs.code.GraphSoFar.{AreNodesRight, NodesGrow, HasContents, IsNodeRight, IsLed, IsOutcome};
+ghost use Rattle.asm_graph.specs.Graphs.{AreEdges, AreFound, GoesTo, IsGraph, IsRefusal, IsShown, LeadsTo, Pairs, state_at};
+ghost use Rattle.asm_graph.specs.code.GraphSoFar.{AreNear, AreNew, AreNodesRight, AreShallow, HasContents, IsLed, IsNear, IsNodeRight, IsOutcome, NodesGrow};
+ghost use Rattle.asm_graph.specs.declared.graph.Edge.{Edge};
+ghost use Rattle.asm_graph.specs.declared.graph.EdgeEnd.TheVariants as target;
 ghost use Rattle.asm_graph.specs.declared.graph.Node.{Node};
 
 use crate::find_node::{find_node, hash_of};
@@ -35,6 +37,7 @@ impl<'m, M: Machine> Walk<'m, M> {
         requires kept { IsStateOf (M.shape self.now.machine.now) state }
         requires led { IsLed (M.specification self.now.machine.now) (M.turns self.now.machine.now) (M.within self.now.machine.now) depth (state_of (M.shape self.now.machine.now) state) }
         ensures state { result.state ≡ state }
+        ensures depth { result.depth ≡ depth }
         ensures kept { IsNodeRight (M.shape self.now.machine.now) (M.specification self.now.machine.now) (M.turns self.now.machine.now) (M.within self.now.machine.now) (M.right self.now.machine.now) (M.rests self.now.machine.now) result }
     {
         let right = self.machine.is_right(self.alloc, &state);
@@ -55,10 +58,15 @@ impl<'m, M: Machine> Walk<'m, M> {
         requires machine { M.is_sound self.now.machine.now }
         requires kept { IsStateOf (M.shape self.now.machine.now) next }
         requires led { IsLed (M.specification self.now.machine.now) (M.turns self.now.machine.now) (M.within self.now.machine.now) depth (state_of (M.shape self.now.machine.now) next) }
-        requires nodes { AreNodesRight (M.shape self.now.machine.now) (M.specification self.now.machine.now) (M.turns self.now.machine.now) (M.within self.now.machine.now) (M.right self.now.machine.now) (M.rests self.now.machine.now) self.now.most nodes.old.items }
-        ensures grows { OnOk result (NodesGrow (M.shape self.now.machine.now) (M.specification self.now.machine.now) (M.turns self.now.machine.now) (M.within self.now.machine.now) (M.right self.now.machine.now) (M.rests self.now.machine.now) self.now.most nodes.old.items nodes.new.items) }
+        requires nodes { AreNodesRight (M.shape self.now.machine.now) (M.specification self.now.machine.now) (M.turns self.now.machine.now) (M.within self.now.machine.now) (M.right self.now.machine.now) (M.rests self.now.machine.now) self.now.steps self.now.most nodes.old.items }
+        requires near { AreShallow depth nodes.old.items }
+        requires shallow { depth ≤ self.now.steps }
+        ensures grows { OnOk result (NodesGrow (M.shape self.now.machine.now) (M.specification self.now.machine.now) (M.turns self.now.machine.now) (M.within self.now.machine.now) (M.right self.now.machine.now) (M.rests self.now.machine.now) self.now.steps self.now.most depth nodes.old.items nodes.new.items) }
         ensures number { IfOk result (λ k. HasContents nodes.new.items k next) }
+        ensures new { IfOk result (λ k. AreNew nodes.old.items nodes.new.items (λ i. k ≡ i)) }
+        ensures refused { IfErr result (IsRefusal (M.specification self.now.machine.now) (M.turns self.now.machine.now) (M.within self.now.machine.now) self.now.steps self.now.most) }
     {
+        script_law();
         let count = self.machine.signature().count();
         if let Some(number) = find_node(nodes.as_slice(), &next, count) {
             return Ok(number);
@@ -85,12 +93,16 @@ impl<'m, M: Machine> Walk<'m, M> {
         requires from { IsStateOf (M.shape self.now.machine.now) from.now }
         requires led { IsLed (M.specification self.now.machine.now) (M.turns self.now.machine.now) (M.within self.now.machine.now) depth (state_of (M.shape self.now.machine.now) from.now) }
         requires inside { (M.within self.now.machine.now) (state_of (M.shape self.now.machine.now) from.now) ≡ true }
-        requires shallow { depth < 4_294_967_295 }
+        requires shallow { depth < self.now.steps }
         requires one { IsOutcome (M.shape self.now.machine.now) (M.specification self.now.machine.now) (M.turns self.now.machine.now) (state_of (M.shape self.now.machine.now) from.now) one.now }
-        requires nodes { AreNodesRight (M.shape self.now.machine.now) (M.specification self.now.machine.now) (M.turns self.now.machine.now) (M.within self.now.machine.now) (M.right self.now.machine.now) (M.rests self.now.machine.now) self.now.most nodes.old.items }
-        ensures grows { OnOk result (NodesGrow (M.shape self.now.machine.now) (M.specification self.now.machine.now) (M.turns self.now.machine.now) (M.within self.now.machine.now) (M.right self.now.machine.now) (M.rests self.now.machine.now) self.now.most nodes.old.items nodes.new.items) }
+        requires nodes { AreNodesRight (M.shape self.now.machine.now) (M.specification self.now.machine.now) (M.turns self.now.machine.now) (M.within self.now.machine.now) (M.right self.now.machine.now) (M.rests self.now.machine.now) self.now.steps self.now.most nodes.old.items }
+        requires near { AreShallow (depth + 1) nodes.old.items }
+        ensures grows { OnOk result (NodesGrow (M.shape self.now.machine.now) (M.specification self.now.machine.now) (M.turns self.now.machine.now) (M.within self.now.machine.now) (M.right self.now.machine.now) (M.rests self.now.machine.now) self.now.steps self.now.most (depth + 1) nodes.old.items nodes.new.items) }
         ensures goes { IfOk result (λ to. (r : Yielded) → Shows (M.shape self.now.machine.now) one.now.answer r →
             GoesTo (M.shape self.now.machine.now) nodes.new.items (state_of (M.shape self.now.machine.now) from.now) r to) }
+        ensures near { IfOk result (IsNear nodes.new.items (depth + 1)) }
+        ensures new { IfOk result (λ to. AreNew nodes.old.items nodes.new.items (λ i. to ≡ target.Node i)) }
+        ensures refused { IfErr result (IsRefusal (M.specification self.now.machine.now) (M.turns self.now.machine.now) (M.within self.now.machine.now) self.now.steps self.now.most) }
     {
         script_law();
         match next_state(self.alloc, self.machine.signature(), from, one)? {
@@ -114,11 +126,15 @@ impl<'m, M: Machine> Walk<'m, M> {
         requires from { IsStateOf (M.shape self.now.machine.now) from.now }
         requires led { IsLed (M.specification self.now.machine.now) (M.turns self.now.machine.now) (M.within self.now.machine.now) depth (state_of (M.shape self.now.machine.now) from.now) }
         requires inside { (M.within self.now.machine.now) (state_of (M.shape self.now.machine.now) from.now) ≡ true }
-        requires shallow { depth < 4_294_967_295 }
+        requires shallow { depth < self.now.steps }
         requires step { IsStep (M.shape self.now.machine.now) (M.specification self.now.machine.now) (M.turns self.now.machine.now) (state_of (M.shape self.now.machine.now) from.now) outcomes.now }
-        requires nodes { AreNodesRight (M.shape self.now.machine.now) (M.specification self.now.machine.now) (M.turns self.now.machine.now) (M.within self.now.machine.now) (M.right self.now.machine.now) (M.rests self.now.machine.now) self.now.most nodes.old.items }
-        ensures grows { OnOk result (NodesGrow (M.shape self.now.machine.now) (M.specification self.now.machine.now) (M.turns self.now.machine.now) (M.within self.now.machine.now) (M.right self.now.machine.now) (M.rests self.now.machine.now) self.now.most nodes.old.items nodes.new.items) }
+        requires nodes { AreNodesRight (M.shape self.now.machine.now) (M.specification self.now.machine.now) (M.turns self.now.machine.now) (M.within self.now.machine.now) (M.right self.now.machine.now) (M.rests self.now.machine.now) self.now.steps self.now.most nodes.old.items }
+        requires near { AreShallow (depth + 1) nodes.old.items }
+        ensures grows { OnOk result (NodesGrow (M.shape self.now.machine.now) (M.specification self.now.machine.now) (M.turns self.now.machine.now) (M.within self.now.machine.now) (M.right self.now.machine.now) (M.rests self.now.machine.now) self.now.steps self.now.most (depth + 1) nodes.old.items nodes.new.items) }
         ensures edges { IfOk result (λ es. AreEdges (M.shape self.now.machine.now) (M.specification self.now.machine.now) (M.turns self.now.machine.now) nodes.new.items (state_of (M.shape self.now.machine.now) from.now) es.items) }
+        ensures near { IfOk result (λ es. Each (λ (e : Edge). IsNear nodes.new.items (depth + 1) e.to) es.items) }
+        ensures new { IfOk result (λ es. AreNew nodes.old.items nodes.new.items (λ i. AnyOf (λ (e : Edge). e.to ≡ target.Node i) es.items)) }
+        ensures refused { IfErr result (IsRefusal (M.specification self.now.machine.now) (M.turns self.now.machine.now) (M.within self.now.machine.now) self.now.steps self.now.most) }
     {
         let mut edges = Vec::new(self.alloc);
         for k in 0..outcomes.len() {
@@ -149,9 +165,13 @@ impl<'m, M: Machine> Walk<'m, M> {
     fn step_from(&self, number: usize, nodes: &mut Vec<Node>) -> Result<Step, GraphError>
         requires machine { M.is_sound self.now.machine.now }
         requires number { number < length nodes.old.items }
-        requires nodes { AreNodesRight (M.shape self.now.machine.now) (M.specification self.now.machine.now) (M.turns self.now.machine.now) (M.within self.now.machine.now) (M.right self.now.machine.now) (M.rests self.now.machine.now) self.now.most nodes.old.items }
-        ensures grows { OnOk result (NodesGrow (M.shape self.now.machine.now) (M.specification self.now.machine.now) (M.turns self.now.machine.now) (M.within self.now.machine.now) (M.right self.now.machine.now) (M.rests self.now.machine.now) self.now.most nodes.old.items nodes.new.items) }
+        requires nodes { AreNodesRight (M.shape self.now.machine.now) (M.specification self.now.machine.now) (M.turns self.now.machine.now) (M.within self.now.machine.now) (M.right self.now.machine.now) (M.rests self.now.machine.now) self.now.steps self.now.most nodes.old.items }
+        requires near { (n : Node) → slice_get nodes.old.items number ≡ Some n → AreShallow (n.depth + 1) nodes.old.items }
+        ensures grows { OnOk result ((n : Node) → slice_get nodes.old.items number ≡ Some n → NodesGrow (M.shape self.now.machine.now) (M.specification self.now.machine.now) (M.turns self.now.machine.now) (M.within self.now.machine.now) (M.right self.now.machine.now) (M.rests self.now.machine.now) self.now.steps self.now.most (n.depth + 1) nodes.old.items nodes.new.items) }
         ensures shown { IfOk result (λ step. (n : Node) → slice_get nodes.old.items number ≡ Some n → IsShown (M.shape self.now.machine.now) (M.specification self.now.machine.now) (M.turns self.now.machine.now) (M.within self.now.machine.now) (IsOverLimitOf (M.made self.now.machine.now) (M.limit self.now.machine.now)) self.now.steps nodes.new.items n step) }
+        ensures near { IfOk result (λ step. (n : Node) → slice_get nodes.old.items number ≡ Some n → AreNear nodes.new.items n step) }
+        ensures new { IfOk result (λ step. AreNew nodes.old.items nodes.new.items (λ i. LeadsTo i step)) }
+        ensures refused { IfErr result (IsRefusal (M.specification self.now.machine.now) (M.turns self.now.machine.now) (M.within self.now.machine.now) self.now.steps self.now.most) }
     {
         let node = &nodes[number];
         let depth = node.depth;
@@ -172,10 +192,15 @@ impl<'m, M: Machine> Walk<'m, M> {
     /// The steps from all nodes, and the nodes that they lead to.
     fn steps_from_all(&self, nodes: &mut Vec<Node>, made: &mut Vec<Step>) -> Result<(), GraphError>
         requires machine { M.is_sound self.now.machine.now }
-        requires nodes { AreNodesRight (M.shape self.now.machine.now) (M.specification self.now.machine.now) (M.turns self.now.machine.now) (M.within self.now.machine.now) (M.right self.now.machine.now) (M.rests self.now.machine.now) self.now.most nodes.old.items }
+        requires nodes { AreNodesRight (M.shape self.now.machine.now) (M.specification self.now.machine.now) (M.turns self.now.machine.now) (M.within self.now.machine.now) (M.right self.now.machine.now) (M.rests self.now.machine.now) self.now.steps self.now.most nodes.old.items }
+        requires one { length nodes.old.items ≡ 1 }
         requires none { made.old.items ≡ [] }
-        ensures grows { OnOk result (NodesGrow (M.shape self.now.machine.now) (M.specification self.now.machine.now) (M.turns self.now.machine.now) (M.within self.now.machine.now) (M.right self.now.machine.now) (M.rests self.now.machine.now) self.now.most nodes.old.items nodes.new.items) }
+        ensures kept { OnOk result (AreNodesRight (M.shape self.now.machine.now) (M.specification self.now.machine.now) (M.turns self.now.machine.now) (M.within self.now.machine.now) (M.right self.now.machine.now) (M.rests self.now.machine.now) self.now.steps self.now.most nodes.new.items) }
+        ensures first { OnOk result (slice_get nodes.new.items 0 ≡ slice_get nodes.old.items 0) }
         ensures shown { OnOk result (Pairs (IsShown (M.shape self.now.machine.now) (M.specification self.now.machine.now) (M.turns self.now.machine.now) (M.within self.now.machine.now) (IsOverLimitOf (M.made self.now.machine.now) (M.limit self.now.machine.now)) self.now.steps nodes.new.items) nodes.new.items made.new.items) }
+        ensures near { OnOk result (Pairs (AreNear nodes.new.items) nodes.new.items made.new.items) }
+        ensures found { OnOk result (AreFound nodes.new.items made.new.items) }
+        ensures refused { IfErr result (IsRefusal (M.specification self.now.machine.now) (M.turns self.now.machine.now) (M.within self.now.machine.now) self.now.steps self.now.most) }
     {
         while made.len() < nodes.len() {
             let step = self.step_from(made.len(), nodes)?;
@@ -196,7 +221,8 @@ pub(crate) fn build_graph<M: Machine>(
     requires machine { M.is_sound machine.now }
     requires kept { IsStateOf (M.shape machine.now) initial }
     requires initial { state_of (M.shape machine.now) initial ≡ (M.specification machine.now).initial }
-    ensures { IfOk result (IsGraph (M.shape machine.now) (M.specification machine.now) (M.turns machine.now) (M.within machine.now) (IsOverLimitOf (M.made machine.now) (M.limit machine.now)) steps most (M.right machine.now) (M.rests machine.now)) }
+    ensures graph { IfOk result (IsGraph (M.shape machine.now) (M.specification machine.now) (M.turns machine.now) (M.within machine.now) (IsOverLimitOf (M.made machine.now) (M.limit machine.now)) steps most (M.right machine.now) (M.rests machine.now)) }
+    ensures refused { IfErr result (IsRefusal (M.specification machine.now) (M.turns machine.now) (M.within machine.now) steps most) }
 {
     script_law();
     if most == 0 {

@@ -1,57 +1,106 @@
 //! The text of a graph for Graphviz.
-ghost use Rattle.std.specs.Prelude.{◌≡◌, ◌<◌, length};
+ghost use Rattle.std.specs.Prelude.{◌≡◌, ◌++◌, length, IfOk, OnOk};
+ghost use Rattle.std.specs.String.{string_bytes};
+ghost use Rattle.std.specs.List.{flat_map, list_any};
 ghost use Rattle.asm_state.specs.Signature.{count_of};
 ghost use Rattle.asm_syntax.specs.code.Views.{spec_of};
 ghost use Rattle.asm_check.specs.Shapes.{shape_of};
 ghost use Rattle.asm_explore.specs.code.ListElements.{Each};
+ghost use Rattle.asm_graph.specs.Dot as text;
 ghost use Rattle.asm_graph.specs.declared.graph.Node.{Node};
 
-use crate::escaped::{push_escaped, push_number};
+use crate::escaped::push_quoted;
 use crate::graph::{Edge, EdgeEnd, Graph, Node, Step, StepFault};
-use crate::labels::{add_choices, add_node_label};
+use crate::labels::{label_of_choices, label_of_node};
 use crate::quiet::is_quiet;
 use asm_check::Checked;
 use std::alloc::{AllocError, Global};
 
-/// Adds what comes after the label of a node: a double border round the first one, a dashed one
-/// if no edges are shown, red if what is to hold doesn't, and grey if it is quiet.
-fn add_marks(text: &mut String, number: usize, node: &Node, step: &Step) -> Result<(), AllocError> {
-    let quiet = is_quiet(step, number);
+/// Adds a double border round the first node.
+fn add_first_mark(dot: &mut String, number: usize) -> Result<(), AllocError>
+    ensures { OnOk result (string_bytes dot.new ≡ string_bytes dot.old ++ text.first_mark number) }
+{
     if number == 0 {
-        text.push_str(", peripheries=2")?;
+        dot.push_str(", peripheries=2")
+    } else {
+        Ok(())
     }
+}
+
+/// Adds that a node is red, if what is to hold doesn't.
+fn add_wrong_mark(dot: &mut String, quiet: bool, node: &Node) -> Result<(), AllocError>
+    ensures { OnOk result (string_bytes dot.new ≡ string_bytes dot.old ++ text.wrong_mark quiet node.now) }
+{
     if !node.right || quiet && !node.rests {
-        text.push_str(", color=red, fontcolor=red")?;
+        dot.push_str(", color=red, fontcolor=red")
+    } else {
+        Ok(())
     }
+}
+
+/// Adds that a node is grey, if it is quiet, or has a dashed border, if no edges are shown.
+fn add_style(dot: &mut String, quiet: bool, step: &Step) -> Result<(), AllocError>
+    ensures { OnOk result (string_bytes dot.new ≡ string_bytes dot.old ++ text.style quiet step.now) }
+{
     match step {
-        Step::Edges(_) if quiet => text.push_str(", style=filled, fillcolor=lightgrey"),
+        Step::Edges(_) if quiet => dot.push_str(", style=filled, fillcolor=lightgrey"),
         Step::Edges(_) => Ok(()),
-        Step::Cut | Step::Crowded => text.push_str(", style=dashed"),
+        Step::Cut | Step::Crowded => dot.push_str(", style=dashed"),
     }
+}
+
+/// Adds what comes after the label of a node.
+fn add_marks(dot: &mut String, number: usize, node: &Node, step: &Step) -> Result<(), AllocError>
+    ensures { OnOk result (string_bytes dot.new ≡ string_bytes dot.old ++ text.marks number node.now step.now) }
+{
+    let quiet = is_quiet(step, number);
+    add_first_mark(dot, number)?;
+    add_wrong_mark(dot, quiet, node)?;
+    add_style(dot, quiet, step)
 }
 
 /// Adds the line of a node.
 fn add_node(
     alloc: Global,
-    text: &mut String,
+    dot: &mut String,
     checked: &Checked,
     number: usize,
     node: &Node,
     step: &Step,
 ) -> Result<(), AllocError>
     requires { length node.now.state ≡ count_of (shape_of (spec_of checked.now.spec)) }
+    ensures { OnOk result (string_bytes dot.new ≡ string_bytes dot.old ++ text.node_line (spec_of checked.now.spec) number node.now step.now) }
 {
-    text.push_str("  s")?;
-    push_number(alloc, text, number as u64)?;
-    text.push_str(" [label=\"")?;
-    add_node_label(alloc, text, checked, number, node, step)?;
-    text.push_str("\"")?;
-    add_marks(text, number, node, step)?;
-    text.push_str("];\n")
+    let head = format!(in alloc; "  s{number} [label=")?;
+    dot.push_str(head.as_str())?;
+    let label = label_of_node(alloc, checked, number, node, step)?;
+    push_quoted(dot, label.as_slice())?;
+    add_marks(dot, number, node, step)?;
+    dot.push_str("];\n")
+}
+
+/// Adds the lines of the nodes.
+fn add_nodes(
+    alloc: Global,
+    dot: &mut String,
+    checked: &Checked,
+    nodes: &[Node],
+    steps: &[Step],
+) -> Result<(), AllocError>
+    requires whole { Each (λ (n : Node). length n.state ≡ count_of (shape_of (spec_of checked.now.spec))) nodes.now }
+    requires paired { length steps.now ≡ length nodes.now }
+    ensures { OnOk result (string_bytes dot.new ≡ string_bytes dot.old ++ text.node_lines (spec_of checked.now.spec) 0 nodes.now steps.now) }
+{
+    for number in 0..nodes.len() {
+        add_node(alloc, dot, checked, number, &nodes[number], &steps[number])?;
+    }
+    Ok(())
 }
 
 /// What a fault is called.
-fn fault_name(fault: StepFault) -> &'static str {
+fn fault_name(fault: StepFault) -> &'static str
+    ensures { result.now ≡ text.fault_name fault }
+{
     match fault {
         StepFault::Clash => "clash",
         StepFault::Outside => "outside",
@@ -59,97 +108,137 @@ fn fault_name(fault: StepFault) -> &'static str {
     }
 }
 
-/// Whether some edge has this fault.
-fn has_fault(steps: &[Step], fault: StepFault) -> bool {
-    for step in steps {
-        if let Step::Edges(edges) = step
-            && edges.iter().any(|edge| edge.to == EdgeEnd::Fault(fault))
-        {
-            return true;
-        }
+/// Whether an edge has this fault.
+fn ends_in(edge: &Edge, fault: StepFault) -> bool
+    ensures { result ≡ text.is_fault fault edge.now.to }
+{
+    match edge.to {
+        EdgeEnd::Fault(found) => found == fault,
+        EdgeEnd::Node(_) => false,
     }
-    false
+}
+
+/// Whether some edge has this fault.
+fn some_ends_in(edges: &[Edge], fault: StepFault) -> bool
+    ensures { result ≡ list_any (λ e. text.is_fault fault e.to) edges.now }
+{
+    edges.iter().any(|edge| ends_in(edge, fault))
+}
+
+/// Whether some edge of a step has this fault.
+fn has_fault(step: &Step, fault: StepFault) -> bool
+    ensures { result ≡ text.has_fault fault step.now }
+{
+    match step {
+        Step::Edges(edges) => some_ends_in(edges.as_slice(), fault),
+        Step::Cut | Step::Crowded => false,
+    }
+}
+
+/// Whether some edge of some step has this fault.
+fn some_has_fault(steps: &[Step], fault: StepFault) -> bool
+    ensures { result ≡ list_any (text.has_fault fault) steps.now }
+{
+    steps.iter().any(|step| has_fault(step, fault))
+}
+
+/// Adds the line of a fault, if some edge has it.
+fn add_fault(dot: &mut String, steps: &[Step], fault: StepFault) -> Result<(), AllocError>
+    ensures { OnOk result (string_bytes dot.new ≡ string_bytes dot.old ++ text.fault_line steps.now fault) }
+{
+    if !some_has_fault(steps, fault) {
+        return Ok(());
+    }
+    dot.push_str("  ")?;
+    dot.push_str(fault_name(fault))?;
+    dot.push_str(" [shape=octagon, color=red, fontcolor=red];\n")
 }
 
 /// Adds a line for each fault that some edge has.
-fn add_faults(text: &mut String, steps: &[Step]) -> Result<(), AllocError> {
-    for fault in [StepFault::Clash, StepFault::Outside, StepFault::Exhausted] {
-        if has_fault(steps, fault) {
-            text.push_str("  ")?;
-            text.push_str(fault_name(fault))?;
-            text.push_str(" [shape=octagon, color=red, fontcolor=red];\n")?;
-        }
-    }
-    Ok(())
+fn add_faults(dot: &mut String, steps: &[Step]) -> Result<(), AllocError>
+    ensures { OnOk result (string_bytes dot.new ≡ string_bytes dot.old ++ flat_map (text.fault_line steps.now) text.faults) }
+{
+    add_fault(dot, steps, StepFault::Clash)?;
+    add_fault(dot, steps, StepFault::Outside)?;
+    add_fault(dot, steps, StepFault::Exhausted)
 }
 
 /// Adds where an edge leads.
-fn add_target(alloc: Global, text: &mut String, to: EdgeEnd) -> Result<(), AllocError> {
+fn add_end(alloc: Global, dot: &mut String, to: EdgeEnd) -> Result<(), AllocError>
+    ensures { OnOk result (string_bytes dot.new ≡ string_bytes dot.old ++ text.end_name to) }
+{
     match to {
         EdgeEnd::Node(number) => {
-            text.push_str("s")?;
-            push_number(alloc, text, number as u64)
+            let name = format!(in alloc; "s{number}")?;
+            dot.push_str(name.as_str())
         }
-        EdgeEnd::Fault(fault) => text.push_str(fault_name(fault)),
+        EdgeEnd::Fault(fault) => dot.push_str(fault_name(fault)),
     }
 }
 
 /// Adds the line of an edge.
-fn add_edge(
-    alloc: Global,
-    text: &mut String,
-    number: usize,
-    edge: &Edge,
-) -> Result<(), AllocError> {
-    text.push_str("  s")?;
-    push_number(alloc, text, number as u64)?;
-    text.push_str(" -> ")?;
-    add_target(alloc, text, edge.to)?;
-    text.push_str(" [label=\"")?;
-    add_choices(alloc, text, edge.choices.as_slice())?;
-    text.push_str("\"];\n")
+fn add_edge(alloc: Global, dot: &mut String, number: usize, edge: &Edge) -> Result<(), AllocError>
+    ensures { OnOk result (string_bytes dot.new ≡ string_bytes dot.old ++ text.edge_line number edge.now) }
+{
+    let head = format!(in alloc; "  s{number} -> ")?;
+    dot.push_str(head.as_str())?;
+    add_end(alloc, dot, edge.to)?;
+    dot.push_str(" [label=")?;
+    let label = label_of_choices(alloc, edge.choices.as_slice())?;
+    push_quoted(dot, label.as_slice())?;
+    dot.push_str("];\n")
 }
 
-/// Adds the lines of the edges from a node.
+/// Adds the lines of edges from a node.
 fn add_edges(
     alloc: Global,
-    text: &mut String,
+    dot: &mut String,
     number: usize,
-    step: &Step,
-) -> Result<(), AllocError> {
-    if let Step::Edges(edges) = step {
-        for edge in edges {
-            add_edge(alloc, text, number, edge)?;
-        }
+    edges: &[Edge],
+) -> Result<(), AllocError>
+    ensures { OnOk result (string_bytes dot.new ≡ string_bytes dot.old ++ flat_map (text.edge_line number) edges.now) }
+{
+    for edge in edges {
+        add_edge(alloc, dot, number, edge)?;
+    }
+    Ok(())
+}
+
+/// Adds the lines of the edges from a node, if they are shown.
+fn add_step(alloc: Global, dot: &mut String, number: usize, step: &Step) -> Result<(), AllocError>
+    ensures { OnOk result (string_bytes dot.new ≡ string_bytes dot.old ++ text.step_lines number step.now) }
+{
+    match step {
+        Step::Edges(edges) => add_edges(alloc, dot, number, edges.as_slice()),
+        Step::Cut | Step::Crowded => Ok(()),
+    }
+}
+
+/// Adds the lines of the edges from all nodes.
+fn add_steps(alloc: Global, dot: &mut String, steps: &[Step]) -> Result<(), AllocError>
+    ensures { OnOk result (string_bytes dot.new ≡ string_bytes dot.old ++ text.edge_lines 0 steps.now) }
+{
+    for number in 0..steps.len() {
+        add_step(alloc, dot, number, &steps[number])?;
     }
     Ok(())
 }
 
 /// The text of a graph of a specification, for Graphviz: a line for each node, in order, then one
-/// for each fault that some edge has, and then one for each edge, in order. What the text is isn't
-/// proved. Its last line alone is `}`, so that one that is cut off is seen to be.
+/// for each fault that some edge has, and then one for each edge, in order. Its last line alone is
+/// `}`, so that one that is cut off is seen to be.
 pub fn dot_text(alloc: Global, checked: &Checked, graph: &Graph) -> Result<String, AllocError>
     requires whole { Each (λ (n : Node). length n.state ≡ count_of (shape_of (spec_of checked.now.spec))) graph.now.nodes.items }
     requires paired { length graph.now.steps.items ≡ length graph.now.nodes.items }
+    ensures { IfOk result (λ dot. string_bytes dot ≡ text.dot_of (spec_of checked.now.spec) graph.now) }
 {
-    let mut text = String::from_str(alloc, "digraph \"")?;
-    push_escaped(&mut text, checked.spec.name.text.as_bytes())?;
-    text.push_str("\" {\n  node [shape=box];\n")?;
+    let mut dot = String::from_str(alloc, "digraph ")?;
+    push_quoted(&mut dot, checked.spec.name.text.as_bytes())?;
+    dot.push_str(" {\n  node [shape=box];\n")?;
     let (nodes, steps) = (graph.nodes.as_slice(), graph.steps.as_slice());
-    for number in 0..nodes.len() {
-        add_node(
-            alloc,
-            &mut text,
-            checked,
-            number,
-            &nodes[number],
-            &steps[number],
-        )?;
-    }
-    add_faults(&mut text, steps)?;
-    for number in 0..steps.len() {
-        add_edges(alloc, &mut text, number, &steps[number])?;
-    }
-    text.push_str("}\n")?;
-    Ok(text)
+    add_nodes(alloc, &mut dot, checked, nodes, steps)?;
+    add_faults(&mut dot, steps)?;
+    add_steps(alloc, &mut dot, steps)?;
+    dot.push_str("}\n")?;
+    Ok(dot)
 }

@@ -1,8 +1,14 @@
-//! Pieces of text within the quotes of Graphviz.
-use std::alloc::{AllocError, Global};
+//! Texts within the quotes of Graphviz.
+ghost use Rattle.std.specs.Prelude.{◌≡◌, ◌++◌, OnOk};
+ghost use Rattle.std.specs.String.{string_bytes};
+ghost use Rattle.asm_graph.specs.Dot.{escaped_character, quoted};
+
+use std::alloc::AllocError;
 
 /// Adds a character, as it is written within quotes.
-fn push_character(text: &mut String, character: char) -> Result<(), AllocError> {
+fn push_character(text: &mut String, character: char) -> Result<(), AllocError>
+    ensures { OnOk result (string_bytes text.new ≡ string_bytes text.old ++ escaped_character character) }
+{
     match character {
         '"' => text.push_str("\\\""),
         '\\' => text.push_str("\\\\"),
@@ -11,16 +17,13 @@ fn push_character(text: &mut String, character: char) -> Result<(), AllocError> 
     }
 }
 
-/// Adds bytes, as they are written within quotes. Names have one byte for each character.
-pub(crate) fn push_escaped(text: &mut String, bytes: &[u8]) -> Result<(), AllocError> {
+/// Adds bytes within quotes. They have one byte for each character, as names have.
+pub(crate) fn push_quoted(text: &mut String, bytes: &[u8]) -> Result<(), AllocError>
+    ensures { OnOk result (string_bytes text.new ≡ string_bytes text.old ++ quoted bytes.now) }
+{
+    text.push_str("\"")?;
     for byte in bytes {
         push_character(text, char::from(*byte))?;
     }
-    Ok(())
-}
-
-/// Adds a number.
-pub(crate) fn push_number(alloc: Global, text: &mut String, number: u64) -> Result<(), AllocError> {
-    let digits = format!(in alloc; "{number}")?;
-    text.push_str(digits.as_str())
+    text.push_str("\"")
 }

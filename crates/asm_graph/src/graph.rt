@@ -6,13 +6,13 @@ use asm_state::state::State;
 #[derive(Drop)]
 pub struct Node {
     pub state: State,
-    /// This many steps lead to it.
+    /// How many steps lead to it. No fewer do, unless they pass a state whose step is `Crowded`.
     pub depth: u32,
     /// Whether what is to hold in each state does.
     pub right: bool,
     /// Whether a run may rest in it, if it is quiet.
     pub rests: bool,
-    /// By which the same state is found again. No proof rests on it: states are compared.
+    /// By which the same state is found again. States with one hash are compared.
     pub(crate) hash: u64,
 }
 

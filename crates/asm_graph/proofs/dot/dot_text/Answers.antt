@@ -1,17 +1,26 @@
-use Rattle.std.proofs.Common.{◌≡◌, ◌∙◌, length, ap, sym, subst}
-use Rattle.std.specs.Prelude.{Some, slice_get}
-use Rattle.std.proofs.lemmas.Option.{slice_get-get_or}
-use Rattle.asm_state.specs.Signature.{count_of}
+use Rattle.std.proofs.Common.{◌≡◌, ◌++◌, ◌∙◌, List, ℕ, ap}
+use Rattle.std.specs.Prelude.{codes}
+use Rattle.std.specs.List.{flat_map}
+use Rattle.std.specs.String.{string_bytes}
 use Rattle.asm_syntax.specs.code.Views.{spec_of}
-use Rattle.asm_check.specs.Shapes.{shape_of}
-use Rattle.asm_graph.specs.declared.graph.Node.{Node}
-use Rattle.asm_graph.proofs.Paired.{each_got}
+use Rattle.asm_graph.specs.Dot.{edge_lines, fault_line, faults, node_lines, quoted}
+use Rattle.asm_graph.proofs.Texts.{seven_pieces}
 use Rattle.asm_graph.proofs.dot.dot_text.Goals as goal
 
-pub add_node-requires : goal.add_node-requires
-add_node-requires c =
-    let nodes = c.as_slice-nodes.result.now in
-    let n = c.index-nodes-number.result in
-    each_got (λ (n : Node). length n.state ≡ count_of (shape_of (spec_of c.args.checked.now.spec))) c.args.graph.now.nodes.items c.loop-number.number n c.requires.whole
-    (subst (λ xs. slice_get xs c.loop-number.number ≡ Some n) c.as_slice-nodes.ensures.value
-    (slice_get-get_or nodes c.loop-number.number n c.loop-number-test.true ∙ ap Some (sym c.index-nodes-number.is)))
+pub returns : goal.returns
+returns c =
+    let s = spec_of c.args.checked.now.spec in
+    let nodes = c.args.graph.now.nodes.items in
+    let steps = c.args.graph.now.steps.items in
+    let same_nodes = c.as_slice-nodes.ensures.value in
+    let same_steps = c.as_slice-steps.ensures.value in
+    seven_pieces (codes "digraph ") (quoted s.name.text) (codes " {\n  node [shape=box];\n") (node_lines s 0 nodes steps) (flat_map (fault_line steps) faults) (edge_lines 0 steps) (codes "}\n")
+    (string_bytes c.in_ok-dot.dot) (string_bytes c.push_quoted.new.text) (string_bytes c.push_str.new.self) (string_bytes c.add_nodes.new.dot) (string_bytes c.add_faults.new.dot)
+    (string_bytes c.add_steps.new.dot) (string_bytes c.push_str-2.new.self) c.in_ok-dot.ensures.ok
+    (c.in_ok-push_quoted.ensures ∙ ap (λ t. string_bytes c.in_ok-dot.dot ++ quoted t) c.as_bytes.ensures)
+    c.in_ok-push_str.ensures.bytes
+    (c.in_ok-add_nodes.ensures ∙ ap (λ ns. string_bytes c.push_str.new.self ++ node_lines s 0 ns c.as_slice-steps.result.now) same_nodes
+    ∙ ap (λ ss. string_bytes c.push_str.new.self ++ node_lines s 0 nodes ss) same_steps)
+    (c.in_ok-add_faults.ensures ∙ ap (λ ss. string_bytes c.add_nodes.new.dot ++ flat_map (fault_line ss) faults) same_steps)
+    (c.in_ok-add_steps.ensures ∙ ap (λ ss. string_bytes c.add_faults.new.dot ++ edge_lines 0 ss) same_steps)
+    c.in_ok-push_str-2.ensures.bytes

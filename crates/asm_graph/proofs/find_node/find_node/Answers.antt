@@ -12,8 +12,8 @@ is_same_state-requires-clause-left c =
     each_got (λ (n : Node). length n.state ≡ c.args.count) nodes c.loop-number.number n c.requires.nodes
     (slice_get-get_or nodes c.loop-number.number n c.loop-number-test.true ∙ ap Some (sym c.index-nodes-number.is))
 
-pub returns-then-is_same_state : goal.returns-then-is_same_state
-returns-then-is_same_state c =
+pub returns-then-is_same_state-clause-some : goal.returns-then-is_same_state-clause-some
+returns-then-is_same_state-clause-some c =
     let nodes = c.args.nodes.now in
     let n = c.index-nodes-number.result in
-    (n, slice_get-get_or nodes c.loop-number.number n c.loop-number-test.true ∙ ap Some (sym c.index-nodes-number.is), c.is_same_state.ensures c.if-is_same_state.true)
+    (n, slice_get-get_or nodes c.loop-number.number n c.loop-number-test.true ∙ ap Some (sym c.index-nodes-number.is), c.is_same_state.ensures.0 c.if-is_same_state.true)

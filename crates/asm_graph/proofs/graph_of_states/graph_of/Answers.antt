@@ -16,11 +16,11 @@ pub build_graph-requires-clause-initial : goal.build_graph-requires-clause-initi
 build_graph-requires-clause-initial c =
     subst (λ shape. state_of shape c.in_ok-initial.initial ≡ initial_state shape) c.signature.ensures c.in_ok-initial.ensures.initial
 
-pub returns : goal.returns
-returns c =
+pub returns-clause-graph : goal.returns-clause-graph
+returns-clause-graph c =
     let m = c.args.specified.now in
     let s = spec_of m.checked.now.spec in
     let shape = shape_of s in
     crowded_otherwise shape (specification_of s) m.turns (holds_in shape m.within.now) (IsOverLimitOf (made_in shape m.turns (rule_of m.code.now)) m.limit)
     (IsMainOverLimit m.checked.now m.turns m.limit) (over_limit m.checked.now m.turns m.limit (rule_of m.code.now) c.requires.main) c.args.steps c.args.most
-    (holds_in shape m.always.now) (holds_in shape m.when_quiet.now) c.in_ok-graph.graph c.in_ok-graph.ensures
+    (holds_in shape m.always.now) (holds_in shape m.when_quiet.now) c.in_ok-graph.graph c.in_ok-graph.ensures.graph

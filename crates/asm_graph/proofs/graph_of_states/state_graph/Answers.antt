@@ -4,7 +4,7 @@ use Rattle.asm_meaning.specs.Declarations.{specification_of}
 use Rattle.asm_explore.specs.Conditions.{term_holds}
 use Rattle.asm_explore.specs.code.ResolvedConditions.{holds_in}
 use Rattle.asm_explore.specs.code.MainRule.{IsMainOverLimit}
-use Rattle.asm_graph.proofs.SameConditions.{same_graph}
+use Rattle.asm_graph.proofs.SameConditions.{same_graph, same_refusal}
 use Rattle.asm_graph.proofs.graph_of_states.state_graph.Goals as goal
 
 pub graph_of-requires : goal.graph_of-requires
@@ -15,8 +15,8 @@ graph_of-requires c = record {
   when_quiet = c.in_ok-when_quiet.ensures.sound;
 }
 
-pub returns : goal.returns
-returns c =
+pub returns-clause-graph : goal.returns-clause-graph
+returns-clause-graph c =
     let checked = c.args.checked.now in
     let q = c.args.question.now in
     let s = spec_of checked.spec in
@@ -24,4 +24,12 @@ returns c =
     same_graph shape (specification_of s) q.turns (IsMainOverLimit checked q.turns q.outcomes) q.steps c.args.most
     (holds_in shape c.in_ok-within.within) (holds_in shape c.in_ok-always.always) (holds_in shape c.in_ok-when_quiet.when_quiet)
     (term_holds checked q.within) (term_holds checked q.always) (term_holds checked q.when_quiet) c.in_ok-graph.graph
-    c.in_ok-within.ensures.means c.in_ok-always.ensures.means c.in_ok-when_quiet.ensures.means c.in_ok-graph.ensures
+    c.in_ok-within.ensures.means c.in_ok-always.ensures.means c.in_ok-when_quiet.ensures.means c.in_ok-graph.ensures.graph
+
+pub returns-in_err-graph-clause-refused : goal.returns-in_err-graph-clause-refused
+returns-in_err-graph-clause-refused c =
+    let checked = c.args.checked.now in
+    let q = c.args.question.now in
+    let s = spec_of checked.spec in
+    same_refusal (specification_of s) q.turns q.steps c.args.most (holds_in (shape_of s) c.in_ok-within.within) (term_holds checked q.within)
+    c.from_residual-in_err-graph.result c.in_err-graph.field-0.0 c.from_residual-in_err-graph.ensures.1 c.in_ok-within.ensures.means c.in_err-graph.ensures.refused

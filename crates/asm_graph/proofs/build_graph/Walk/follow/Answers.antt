@@ -1,11 +1,12 @@
-use Rattle.std.proofs.Common.{sym, subst}
+use Rattle.std.proofs.Common.{◌≡◌, ◌+◌, ap, sym, subst, arith}
 use Rattle.std.specs.Prelude.{IfErr, IfOk}
 use Rattle.asm_state.specs.code.Contents.{IsStateOf}
 use Rattle.asm_state.specs.Signature.{count_of, state_of}
 use Rattle.asm_explore.specs.code.OutcomeLists.{IsCounted}
+use Rattle.asm_graph.specs.declared.graph.EdgeEnd.TheVariants as target
 use Rattle.asm_graph.specs.code.GraphSoFar.{FailsSo, Leads}
-use Rattle.asm_graph.proofs.MoreNodes.{grows_none}
-use Rattle.asm_graph.proofs.Outcomes.{goes_known, led_on, leads_on, whole_next}
+use Rattle.asm_graph.proofs.MoreNodes.{grown_shallow, grows_none, none_new}
+use Rattle.asm_graph.proofs.Outcomes.{goes_known, led_on, leads_on, near_known, whole_next}
 use Rattle.asm_graph.proofs.build_graph.Walk.follow.Goals as goal
 
 pub next_state-requires-clause-from : goal.next_state-requires-clause-from
@@ -68,9 +69,29 @@ returns-in-Err-clause-grows g c =
     let within = g.M.Machine.within a.self.now.machine.now in
     let right = g.M.Machine.right a.self.now.machine.now in
     let rests = g.M.Machine.rests a.self.now.machine.now in
-    grows_none shape specification turns within right rests a.self.now.most a.nodes.now.items c.requires.nodes
+    grows_none shape specification turns within right rests a.self.now.steps a.self.now.most (a.depth + 1) a.nodes.now.items c.requires.nodes
 
 pub returns-in-Err-clause-goes : goal.returns-in-Err-clause-goes
 returns-in-Err-clause-goes g c =
     subst (λ s. FailsSo s c.args.one.now c.in-Err.fault) c.signature.ensures
     (subst (λ led. IfErr led (FailsSo c.signature.result.now c.args.one.now)) c.in-Err.is c.in_ok-next.ensures.fault)
+
+pub returns-in_ok-number-in-Ok-clause-near : goal.returns-in_ok-number-in-Ok-clause-near
+returns-in_ok-number-in-Ok-clause-near g c =
+    let a = c.args in
+    let shape = g.M.Machine.shape a.self.now.machine.now in
+    let specification = g.M.Machine.specification a.self.now.machine.now in
+    let turns = g.M.Machine.turns a.self.now.machine.now in
+    let within = g.M.Machine.within a.self.now.machine.now in
+    let right = g.M.Machine.right a.self.now.machine.now in
+    let rests = g.M.Machine.rests a.self.now.machine.now in
+    let new = c.reach.new.nodes.items in
+    let ok = c.in_ok-number-in-Ok in
+    near_known (a.depth + 1) c.in-Ok.next new ok.number ok.ensures.number
+    (grown_shallow shape specification turns within right rests a.self.now.steps a.self.now.most (a.depth + 1) a.nodes.now.items new ok.ensures.grows c.requires.near)
+
+pub returns-in_ok-number-in-Ok-clause-new : goal.returns-in_ok-number-in-Ok-clause-new
+returns-in_ok-number-in-Ok-clause-new g c = λ i past low. ap target.Node (c.in_ok-number-in-Ok.ensures.new i past low)
+
+pub returns-in-Err-clause-new : goal.returns-in-Err-clause-new
+returns-in-Err-clause-new g c = none_new c.args.nodes.now.items (λ i. target.Fault c.in-Err.fault ≡ target.Node i)

@@ -6,4 +6,5 @@ returns-clause-kept g c = record {
   led = c.requires.led;
   is_right = c.is_right-right.ensures;
   is_rest = c.may_rest-rests.ensures;
+  hashed = c.hash_of-hash.ensures;
 }

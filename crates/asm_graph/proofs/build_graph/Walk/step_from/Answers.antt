@@ -1,13 +1,15 @@
-use Rattle.std.proofs.Common.{◌≡◌, ◌≤◌, ◌<◌, ◌⊎◌, ◌∙◌, true, false, length, ap, sym, subst, arith}
+use Rattle.std.proofs.Common.{◌≡◌, ◌+◌, ◌≤◌, ◌<◌, ◌⊎◌, ◌∙◌, true, false, length, ap, sym, subst, arith}
 use Rattle.std.specs.Prelude.{Some, IfNone, IfSome, slice_get}
 use Rattle.std.proofs.lemmas.Option.{slice_get-get_or}
 use Rattle.asm_state.specs.code.Contents.{IsStateOf}
 use Rattle.asm_state.specs.Signature.{state_of}
 use Rattle.asm_explore.specs.code.StepOutcomes.{IsListed, IsStep}
+use Rattle.asm_explore.specs.code.OutcomeLists.{Each}
+use Rattle.asm_graph.specs.declared.graph.Edge.{Edge}
 use Rattle.asm_graph.specs.declared.graph.Node.{Node}
 use Rattle.asm_graph.specs.Graphs.{AreEdges, state_at}
-use Rattle.asm_graph.specs.code.GraphSoFar.{IsNodeRight, IsLed}
-use Rattle.asm_graph.proofs.MoreNodes.{grows_none}
+use Rattle.asm_graph.specs.code.GraphSoFar.{IsLed, IsNear, IsNodeRight, NodesGrow}
+use Rattle.asm_graph.proofs.MoreNodes.{grows_none, none_new}
 use Rattle.asm_graph.proofs.Paired.{each_got}
 use Rattle.asm_graph.proofs.build_graph.Walk.step_from.Goals as goal
 
@@ -34,7 +36,10 @@ returns-in_default-clause-grows g c =
     let within = g.M.Machine.within a.self.now.machine.now in
     let right = g.M.Machine.right a.self.now.machine.now in
     let rests = g.M.Machine.rests a.self.now.machine.now in
-    grows_none shape specification turns within right rests a.self.now.most a.nodes.now.items c.requires.nodes
+    λ m here. grows_none shape specification turns within right rests a.self.now.steps a.self.now.most (m.depth + 1) a.nodes.now.items c.requires.nodes
+
+pub returns-in_default-clause-new : goal.returns-in_default-clause-new
+returns-in_default-clause-new g c = none_new c.args.nodes.now.items (λ i. ⊥)
 
 pub returns-in_default-clause-shown : goal.returns-in_default-clause-shown
 returns-in_default-clause-shown g c = λ m here.
@@ -122,7 +127,20 @@ edges_from-requires-clause-shallow g c =
     let n = c.index-node.result.now in
     let there : slice_get a.nodes.now.items a.number ≡ Some n = slice_get-get_or a.nodes.now.items a.number n c.requires.number ∙ ap Some (sym c.index-node.ensures) in
     let some = subst (λ o. IfSome o (λ state. (state ≡ n.state) × (n.depth < a.self.now.steps) × (within (state_at shape n) ≡ true))) c.in-Some.is c.in_ok-state.ensures.some in
-    omega (arith, some.1, a.self.now.steps_in_range)
+    some.1
+
+pub edges_from-requires-clause-near : goal.edges_from-requires-clause-near
+edges_from-requires-clause-near g c =
+    let a = c.args in
+    let shape = g.M.Machine.shape a.self.now.machine.now in
+    let specification = g.M.Machine.specification a.self.now.machine.now in
+    let turns = g.M.Machine.turns a.self.now.machine.now in
+    let within = g.M.Machine.within a.self.now.machine.now in
+    let right = g.M.Machine.right a.self.now.machine.now in
+    let rests = g.M.Machine.rests a.self.now.machine.now in
+    let n = c.index-node.result.now in
+    let there : slice_get a.nodes.now.items a.number ≡ Some n = slice_get-get_or a.nodes.now.items a.number n c.requires.number ∙ ap Some (sym c.index-node.ensures) in
+    c.requires.near n there
 
 pub edges_from-requires-clause-step : goal.edges_from-requires-clause-step
 edges_from-requires-clause-step g c =
@@ -155,3 +173,34 @@ returns-in-Ok-clause-shown g c = λ m here.
     let es = c.in_ok-edges-in-Ok.edges.items in
     subst (λ (x : Node). (x.depth < a.self.now.steps) × (within (state_at shape x) ≡ true) × AreEdges shape specification turns new (state_at shape x) es) same
     (some.1, some.2, subst (λ xs. AreEdges shape specification turns new (state_of shape xs) es) some.0 c.in_ok-edges-in-Ok.ensures.edges)
+
+pub returns-in-Ok-clause-grows : goal.returns-in-Ok-clause-grows
+returns-in-Ok-clause-grows g c =
+    let a = c.args in
+    let shape = g.M.Machine.shape a.self.now.machine.now in
+    let specification = g.M.Machine.specification a.self.now.machine.now in
+    let turns = g.M.Machine.turns a.self.now.machine.now in
+    let within = g.M.Machine.within a.self.now.machine.now in
+    let right = g.M.Machine.right a.self.now.machine.now in
+    let rests = g.M.Machine.rests a.self.now.machine.now in
+    let n = c.index-node.result.now in
+    let there : slice_get a.nodes.now.items a.number ≡ Some n = slice_get-get_or a.nodes.now.items a.number n c.requires.number ∙ ap Some (sym c.index-node.ensures) in
+    λ m here.
+    let same : n ≡ m = cc in
+    subst (λ (x : Node). NodesGrow shape specification turns within right rests a.self.now.steps a.self.now.most (x.depth + 1) a.nodes.now.items c.edges_from.new.nodes.items) same c.in_ok-edges-in-Ok.ensures.grows
+
+pub returns-in-Ok-clause-near : goal.returns-in-Ok-clause-near
+returns-in-Ok-clause-near g c =
+    let a = c.args in
+    let shape = g.M.Machine.shape a.self.now.machine.now in
+    let specification = g.M.Machine.specification a.self.now.machine.now in
+    let turns = g.M.Machine.turns a.self.now.machine.now in
+    let within = g.M.Machine.within a.self.now.machine.now in
+    let right = g.M.Machine.right a.self.now.machine.now in
+    let rests = g.M.Machine.rests a.self.now.machine.now in
+    let n = c.index-node.result.now in
+    let there : slice_get a.nodes.now.items a.number ≡ Some n = slice_get-get_or a.nodes.now.items a.number n c.requires.number ∙ ap Some (sym c.index-node.ensures) in
+    λ m here.
+    let same : n ≡ m = cc in
+    let es = c.in_ok-edges-in-Ok.edges.items in
+    subst (λ (x : Node). Each (λ (e : Edge). IsNear c.edges_from.new.nodes.items (x.depth + 1) e.to) es) same c.in_ok-edges-in-Ok.ensures.near

@@ -1,0 +1,146 @@
+-- Definition. The text of a graph, in the language of Graphviz.
+--     escaped bytes        a text as it is written within quotes: a backslash before each quote and
+--                          each backslash, `\n` for a line feed, and each byte from 128 on as the
+--                          character with its number
+--     quoted bytes         the same with the quotes
+--     QuotedLaw            it ends at the second of them
+--     is_quiet i step      each edge of the step leads back to the node with this number
+--     node_line            the line of a node: its label, a double border if it is the first one,
+--                          red if its state isn't right, or is quiet and no run may rest in it, and
+--                          grey if it is quiet, or dashed if no edges of it are shown
+--     fault_line           the line of a kind of fault, if some edge has it
+--     edge_line i e        the line of an edge from the node with this number: where it leads, and
+--                          its choices
+--     dot_of s graph       the whole text: the name of the specification, the nodes, the faults and
+--                          the edges, and `}` in the last line
+use Rattle.std.specs.Prelude.{◌≡◌, ℕ, suc, Bool, true, false, not, ◌&&◌, ◌||◌, ◌==◌, if◌then◌else◌, List, [], ◌∷◌, ◌++◌, codes, decimal, encode_utf8}
+use Rattle.std.specs.List.{flat_map, list_all, list_any}
+use Rattle.asm_state.specs.Signature.{Shape}
+use Rattle.asm_syntax.specs.SourceTree.{Spec}
+use Rattle.asm_check.specs.Shapes.{shape_of}
+use Rattle.asm_graph.specs.declared.graph.Edge.{Edge}
+use Rattle.asm_graph.specs.declared.graph.EdgeEnd.{EdgeEnd}
+use Rattle.asm_graph.specs.declared.graph.EdgeEnd.TheVariants as target
+use Rattle.asm_graph.specs.declared.graph.Graph.{Graph}
+use Rattle.asm_graph.specs.declared.graph.Node.{Node}
+use Rattle.asm_graph.specs.declared.graph.Step.{Step}
+use Rattle.asm_graph.specs.declared.graph.Step.TheVariants as step
+use Rattle.asm_graph.specs.declared.graph.StepFault.{StepFault}
+use Rattle.asm_graph.specs.declared.graph.StepFault.TheVariants as fault
+use Rattle.asm_graph.specs.Graphs.{state_at}
+use Rattle.asm_graph.specs.Labels.{choices_label, node_label}
+
+-- ---- texts within quotes
+
+abbrev pub escaped_character : ℕ → List ℕ
+escaped_character c = if c == 34 then codes "\\\"" else (if c == 92 then codes "\\\\" else (if c == 10 then codes "\\n" else encode_utf8 c))
+
+abbrev pub escaped : List ℕ → List ℕ
+escaped bytes = flat_map escaped_character bytes
+
+abbrev pub quoted : List ℕ → List ℕ
+quoted bytes = codes "\"" ++ (escaped bytes ++ codes "\"")
+
+-- what follows the quote that ends a text: the first before which there is no backslash, or two
+abbrev pub behind_quote : (after_backslash : Bool) → List ℕ → List ℕ
+behind_quote after [] = []
+behind_quote true (b ∷ bytes) = behind_quote false bytes
+behind_quote false (b ∷ bytes) = if b == 34 then bytes else behind_quote (b == 92) bytes
+
+abbrev pub QuotedLaw : Type 0
+QuotedLaw = (bytes rest : List ℕ) → behind_quote false (escaped bytes ++ 34 ∷ rest) ≡ rest
+
+-- ---- nodes
+
+abbrev pub is_node : ℕ → EdgeEnd → Bool
+is_node i (target.Node j) = j == i
+is_node i (target.Fault f) = false
+
+abbrev pub is_quiet : ℕ → Step → Bool
+is_quiet i step.Cut = false
+is_quiet i step.Crowded = false
+is_quiet i (step.Edges es) = list_all (λ (e : Edge). is_node i e.to) es.items
+
+abbrev pub first_mark : ℕ → List ℕ
+first_mark i = if i == 0 then codes ", peripheries=2" else []
+
+abbrev pub wrong_mark : (quiet : Bool) → Node → List ℕ
+wrong_mark quiet n = if not n.right || (quiet && not n.rests) then codes ", color=red, fontcolor=red" else []
+
+abbrev pub style : (quiet : Bool) → Step → List ℕ
+style quiet step.Cut = codes ", style=dashed"
+style quiet step.Crowded = codes ", style=dashed"
+style quiet (step.Edges es) = if quiet then codes ", style=filled, fillcolor=lightgrey" else []
+
+abbrev pub marks : ℕ → Node → Step → List ℕ
+marks i n step = first_mark i ++ (wrong_mark (is_quiet i step) n ++ style (is_quiet i step) step)
+
+-- what a node is called
+abbrev pub node_name : ℕ → List ℕ
+node_name i = codes "s" ++ decimal i
+
+abbrev pub node_line : Spec → ℕ → Node → Step → List ℕ
+node_line s i n step =
+    codes "  " ++ (node_name i ++ (codes " [label=" ++ (quoted (node_label s i (state_at (shape_of s) n) step) ++ (marks i n step ++ codes "];\n"))))
+
+-- from this number on
+abbrev pub node_lines : Spec → ℕ → List Node → List Step → List ℕ
+node_lines s i [] steps = []
+node_lines s i (n ∷ nodes) [] = []
+node_lines s i (n ∷ nodes) (step ∷ steps) = node_line s i n step ++ node_lines s (suc i) nodes steps
+
+-- ---- faults
+
+abbrev pub faults : List StepFault
+faults = fault.Clash ∷ fault.Outside ∷ fault.Exhausted ∷ []
+
+abbrev pub fault_name : StepFault → List ℕ
+fault_name fault.Clash = codes "clash"
+fault_name fault.Outside = codes "outside"
+fault_name fault.Exhausted = codes "exhausted"
+
+abbrev pub is_same_fault : StepFault → StepFault → Bool
+is_same_fault fault.Clash fault.Clash = true
+is_same_fault fault.Outside fault.Outside = true
+is_same_fault fault.Exhausted fault.Exhausted = true
+is_same_fault f g = false
+
+abbrev pub is_fault : StepFault → EdgeEnd → Bool
+is_fault f (target.Node j) = false
+is_fault f (target.Fault g) = is_same_fault g f
+
+abbrev pub has_fault : StepFault → Step → Bool
+has_fault f step.Cut = false
+has_fault f step.Crowded = false
+has_fault f (step.Edges es) = list_any (λ (e : Edge). is_fault f e.to) es.items
+
+abbrev pub fault_line : List Step → StepFault → List ℕ
+fault_line steps f = if list_any (has_fault f) steps then codes "  " ++ (fault_name f ++ codes " [shape=octagon, color=red, fontcolor=red];\n") else []
+
+-- ---- edges
+
+abbrev pub end_name : EdgeEnd → List ℕ
+end_name (target.Node i) = node_name i
+end_name (target.Fault f) = fault_name f
+
+abbrev pub edge_line : ℕ → Edge → List ℕ
+edge_line i e = codes "  " ++ (node_name i ++ (codes " -> " ++ (end_name e.to ++ (codes " [label=" ++ (quoted (choices_label e.choices.items) ++ codes "];\n")))))
+
+abbrev pub step_lines : ℕ → Step → List ℕ
+step_lines i step.Cut = []
+step_lines i step.Crowded = []
+step_lines i (step.Edges es) = flat_map (edge_line i) es.items
+
+-- from this number on
+abbrev pub edge_lines : ℕ → List Step → List ℕ
+edge_lines i [] = []
+edge_lines i (step ∷ steps) = step_lines i step ++ edge_lines (suc i) steps
+
+-- ---- the whole
+
+abbrev pub dot_of : Spec → Graph → List ℕ
+dot_of s graph =
+    codes "digraph " ++ (quoted s.name.text ++ (codes " {\n  node [shape=box];\n"
+    ++ (node_lines s 0 graph.nodes.items graph.steps.items
+    ++ (flat_map (fault_line graph.steps.items) faults
+    ++ (edge_lines 0 graph.steps.items ++ codes "}\n")))))

@@ -1,0 +1,76 @@
+-- Definition. What is written in a node and at an edge.
+--     value_text s v, location_text s l   a value, and a location, as the specification s writes
+--                                         them
+--     content_lines s l v                 a line for a location that isn't undef, and else none
+--     state_lines s A                     those of all locations of a state, in their order
+--     shortened lines                     twelve of them at most, and `..` for the others
+--     node_label s i A step               the number of a node, its state, and whether its step
+--                                         has too many outcomes
+--     path_text p, choice_text c          a path, and a choice, as a script writes them
+--     choices_label cs                    a line for each choice
+use Rattle.std.specs.Prelude.{ℕ, true, false, List, [], ◌∷◌, ◌++◌, length, take, slice_index_or, nat_le, if◌then◌else◌, codes, decimal}
+use Rattle.std.specs.List.{flat_map, join_by}
+use Rattle.std.specs.Fmt.{signed_decimal}
+use Rattle.asm_state.specs.declared.value.Value.{Value}
+use Rattle.asm_state.specs.declared.value.Value.TheVariants.{Undef, Truth, Number, Element}
+use Rattle.asm_state.specs.Location.{Location, Proper, Stray, State}
+use Rattle.asm_state.specs.Signature.{locations}
+use Rattle.asm_syntax.specs.SourceTree.{Spec}
+use Rattle.asm_check.specs.Numbers.{elements_of, functions_of}
+use Rattle.asm_check.specs.Shapes.{shape_of, texts_of}
+use Rattle.asm_explore.specs.declared.outcomes.listed_outcome.Choice.{Choice}
+use Rattle.asm_graph.specs.declared.graph.Step.{Step}
+use Rattle.asm_graph.specs.declared.graph.Step.TheVariants as step
+
+-- ---- a state
+
+abbrev pub function_text : Spec → ℕ → List ℕ
+function_text s f = slice_index_or (texts_of (functions_of s)) f []
+
+abbrev pub value_text : Spec → Value → List ℕ
+value_text s Undef = codes "undef"
+value_text s (Truth false) = codes "false"
+value_text s (Truth true) = codes "true"
+value_text s (Number n) = signed_decimal n.value
+value_text s (Element e) = slice_index_or (texts_of (elements_of s)) e.index []
+
+-- in brackets, with a comma and a space between each two
+abbrev pub arguments_text : Spec → List Value → List ℕ
+arguments_text s [] = []
+arguments_text s (v ∷ vs) = codes "(" ++ (join_by (value_text s) (codes ", ") (v ∷ vs) ++ codes ")")
+
+abbrev pub location_text : Spec → Location → List ℕ
+location_text s (Proper f vs) = function_text s f ++ arguments_text s vs
+location_text s (Stray f) = function_text s f
+
+abbrev pub content_lines : Spec → Location → Value → List (List ℕ)
+content_lines s l Undef = []
+content_lines s l v = (location_text s l ++ (codes " = " ++ value_text s v)) ∷ []
+
+abbrev pub state_lines : Spec → State → List (List ℕ)
+state_lines s A = flat_map (λ l. content_lines s l (A l)) (locations (shape_of s))
+
+abbrev pub shortened : List (List ℕ) → List (List ℕ)
+shortened lines = if nat_le (length lines) 12 then lines else take 12 lines ++ codes ".." ∷ []
+
+abbrev pub crowd_lines : Step → List (List ℕ)
+crowd_lines step.Cut = []
+crowd_lines step.Crowded = codes "too many outcomes" ∷ []
+crowd_lines (step.Edges es) = []
+
+abbrev pub node_label : Spec → (number : ℕ) → State → Step → List ℕ
+node_label s i A step = join_by (λ line. line) (codes "\n") (decimal i ∷ (shortened (state_lines s A) ++ crowd_lines step))
+
+-- ---- choices
+
+-- `-`, or its numbers with a dot between each two
+abbrev pub path_text : List ℕ → List ℕ
+path_text [] = codes "-"
+path_text (k ∷ ks) = join_by decimal (codes ".") (k ∷ ks)
+
+-- without the step
+abbrev pub choice_text : Choice → List ℕ
+choice_text c = path_text c.path ++ (codes " " ++ decimal c.number)
+
+abbrev pub choices_label : List Choice → List ℕ
+choices_label cs = join_by choice_text (codes "\n") cs
