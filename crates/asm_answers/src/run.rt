@@ -5,7 +5,7 @@
 use crate::parts::Parts;
 use crate::refusal;
 use asm_limits::run_limits::{DEFAULTS, Limits};
-use asm_run::end::End;
+use asm_run::end::EndKind;
 use asm_run::run::run;
 use asm_run::through::Through;
 use std::alloc::{AllocError, Global};
@@ -129,19 +129,19 @@ fn found<R: Threads + Sync>(
     let mut out = Through::new(Vec::new(alloc));
     let (text, script) = (parts.text.as_slice(), parts.script.as_slice());
     let ending = match run(rt, alloc, text, script, limits, &mut out) {
-        Ok(end) => String::from_str(alloc, ending(end))?,
+        Ok(end) => String::from_str(alloc, ending(end.kind()))?,
         Err(reason) => refusal::of_run(alloc, reason)?,
     };
     let written = String::from_utf8_lossy(alloc, out.get_ref().as_slice())?;
     format!(in alloc; "{ending}\n{written}")
 }
 
-/// An end by the word for it in the line of a trace.
-fn ending(end: End) -> &'static str {
-    match end {
-        End::Limit => "limit",
-        End::Clash => "clash",
-        End::Outside => "outside",
-        End::Exhausted => "exhausted",
+/// A kind of end by the word for it in the line of a trace.
+fn ending(kind: EndKind) -> &'static str {
+    match kind {
+        EndKind::Limit => "limit",
+        EndKind::Clash => "clash",
+        EndKind::Outside => "outside",
+        EndKind::Exhausted => "exhausted",
     }
 }

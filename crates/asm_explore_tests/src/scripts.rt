@@ -6,7 +6,7 @@ use crate::texts::stack::STACK_WRONG;
 use crate::texts::termination::TERMINATION_WRONG;
 use asm_explore::{BadRun, ExplorationResult, Finding};
 use asm_limits::run_limits::{DEFAULTS, Limits};
-use asm_run::end::End;
+use asm_run::end::EndKind;
 use asm_run::error::RunError;
 use asm_run::run::run;
 use asm_run::through::Through;
@@ -26,7 +26,7 @@ rule M = choose i in Few do \
 if i = 2 and n = 2 then iterate n := n + 1 enditerate else n := i endif endchoose";
 
 /// A text, what is asked about it, and how the run under the script ends that is found.
-type Case = (&'static str, Asked, End);
+type Case = (&'static str, Asked, EndKind);
 
 /// What leads both processes into the critical section.
 const BOTH: Asked = Asked {
@@ -46,14 +46,14 @@ const FOUR: Asked = Asked {
 };
 
 static SCRIPTS: [Case; 8] = [
-    (MUTEX_WRONG, ANY, End::Clash),
-    (ALTERNATING_WRONG, ANY, End::Clash),
-    (TERMINATION_WRONG, ANY, End::Clash),
-    (STACK_WRONG, ANY, End::Clash),
-    (OUTSIDE, ANY, End::Outside),
-    (EXHAUSTED, ANY, End::Exhausted),
-    (MUTEX_WRONG, BOTH, End::Limit),
-    (LEAPS, FOUR, End::Limit),
+    (MUTEX_WRONG, ANY, EndKind::Clash),
+    (ALTERNATING_WRONG, ANY, EndKind::Clash),
+    (TERMINATION_WRONG, ANY, EndKind::Clash),
+    (STACK_WRONG, ANY, EndKind::Clash),
+    (OUTSIDE, ANY, EndKind::Outside),
+    (EXHAUSTED, ANY, EndKind::Exhausted),
+    (MUTEX_WRONG, BOTH, EndKind::Limit),
+    (LEAPS, FOUR, EndKind::Limit),
 ];
 
 /// The run that is found.
@@ -75,7 +75,7 @@ fn run_under<R: Threads + Sync + AllocGlobal>(
     text: &str,
     script: &str,
     steps: u32,
-) -> Result<(End, Vec<u8>), RunError> {
+) -> Result<(EndKind, Vec<u8>), RunError> {
     let limits = Limits {
         steps,
         turns: ANY.turns,
@@ -84,7 +84,7 @@ fn run_under<R: Threads + Sync + AllocGlobal>(
     let mut out = Through::new(Vec::new(rt.alloc()));
     let (text, script) = (text.as_bytes(), script.as_bytes());
     let end = run(rt, rt.alloc(), text, script, &limits, &mut out)?;
-    Ok((end, out.into_inner()))
+    Ok((end.kind(), out.into_inner()))
 }
 
 /// How the runs under a found script end: of its steps, and of one less.
@@ -92,7 +92,7 @@ fn ends_of<R: Threads + Sync + AllocGlobal>(
     rt: &R,
     text: &str,
     bad: &BadRun,
-) -> Result<(End, End), Fail> {
+) -> Result<(EndKind, EndKind), Fail> {
     let Ok(steps) = u32::try_from(bad.step) else {
         return Err(Fail::new("it has too many steps"));
     };
@@ -106,7 +106,7 @@ fn ends<R: Threads + Sync + AllocGlobal>(
     rt: &R,
     text: &str,
     asked: &Asked,
-) -> Result<(End, End), Fail> {
+) -> Result<(EndKind, EndKind), Fail> {
     let bad = found_run(rt.alloc(), text, asked)?;
     let ended = ends_of(rt, text, &bad);
     drop(bad);
@@ -119,7 +119,7 @@ fn first_other<R: Threads + Sync + AllocGlobal>(
     rows: &'static [Case],
 ) -> Result<Option<&'static str>, Fail> {
     for (text, asked, end) in rows {
-        if ends(rt, text, asked)? != (*end, End::Limit) {
+        if ends(rt, text, asked)? != (*end, EndKind::Limit) {
             return Ok(Some(*text));
         }
     }

@@ -12,7 +12,7 @@ use Rattle.asm_limits.specs.declared.run_limits.Limits.{Limits}
 
 at_limit : (r : run.End) → IsReturned r end.Limit → r ≡ AtLimit
 at_limit AtLimit is = refl
-at_limit (AtExhausted i p) is = let bad : end.Limit ≡ end.Exhausted = is in cc
+at_limit (AtExhausted i p) is = absurd cc
 at_limit (AtFault i U) is = absurd is
 
 not_at_limit : (r : run.End) (e : End) → (e ≡ end.Limit → ⊥) → IsReturned r e → r ≢ AtLimit
@@ -27,9 +27,9 @@ module _ (text script_text : List ℕ) (limits : Limits) (old new : Option (List
 
 pub results_tell : ResultsTell
 results_tell t s l old new (Ok end.Limit) done why = of_end t s l old new (λ e. e ≡ AtLimit) end.Limit at_limit done
-results_tell t s l old new (Ok end.Clash) done why = of_end t s l old new (λ e. e ≢ AtLimit) end.Clash (λ x. not_at_limit x end.Clash (λ bad. cc)) done
-results_tell t s l old new (Ok end.Outside) done why = of_end t s l old new (λ e. e ≢ AtLimit) end.Outside (λ x. not_at_limit x end.Outside (λ bad. cc)) done
-results_tell t s l old new (Ok end.Exhausted) done why = of_end t s l old new (λ e. e ≢ AtLimit) end.Exhausted (λ x. not_at_limit x end.Exhausted (λ bad. cc)) done
+results_tell t s l old new (Ok (end.Clash i f vs v w)) done why = of_end t s l old new (λ e. e ≢ AtLimit) (end.Clash i f vs v w) (λ x. not_at_limit x (end.Clash i f vs v w) (λ bad. cc)) done
+results_tell t s l old new (Ok (end.Outside i f)) done why = of_end t s l old new (λ e. e ≢ AtLimit) (end.Outside i f) (λ x. not_at_limit x (end.Outside i f) (λ bad. cc)) done
+results_tell t s l old new (Ok (end.Exhausted i p)) done why = of_end t s l old new (λ e. e ≢ AtLimit) (end.Exhausted i p) (λ x. not_at_limit x (end.Exhausted i p) (λ bad. cc)) done
 results_tell t s l old new (Err (error.Read e)) done why = unread e why.0
 results_tell t s l old new (Err (error.Check e)) done why = faulty e why.0
 results_tell t s l old new (Err (error.Script e)) done why = unscripted why.0 e why.1 why.2

@@ -3,6 +3,7 @@ mod FirstTokens
 pub mod FormedSet
 pub mod LocationFunctions
 mod RunSoFar
+pub mod EndTexts
 pub mod StepEnds
 pub mod ProperLocations
 mod RunOrRefusal

@@ -1,10 +1,8 @@
 -- Free. What is written of the proper locations, and which function a location is of.
-use Rattle.std.proofs.Common.{◌≡◌, ℕ, ◌+◌, ◌<◌, cond, List, [], get_or, All, Option, Some, None, inl, inr, refl, sym, ap, subst, ◌∙◌, arith}
+use Rattle.std.proofs.Common.{◌≡◌, ℕ, ◌+◌, ◌<◌, cond, List, [], get_or, All, Option, Some, None, refl, sym, ap, ◌∙◌, arith}
 use Rattle.std.specs.List.{filter, flat_map, range_with_len}
 use Rattle.std.specs.List.Sorted.{IsStrictlyIncreasing}
 use Rattle.std.specs.Map.{keys_of}
-use Rattle.std.proofs.lemmas.Bool.{cases_lt}
-use Rattle.std.proofs.lemmas.List.{get_or_past}
 use Rattle.std.proofs.lemmas.List.Kept.{AllPairs-from_increasing}
 use Rattle.std.proofs.lemmas.Option.{slice_get_within}
 use Rattle.asm_state.specs.declared.value.Value.{Value}
@@ -12,7 +10,7 @@ use Rattle.asm_state.specs.declared.value.Value.TheVariants.{Undef}
 use Rattle.asm_state.specs.Location.{Location, Proper, Stray, function_of}
 use Rattle.asm_state.specs.Signature.{Shape, IsSound, functions_of, locations, count_of, location_at, number_at, IsLocationOf, state_of}
 use Rattle.asm_state.specs.code.SignatureLaws.{IsHeld}
-use Rattle.asm_state.specs.Updates.{UpdateSet, Has, IsConsistent, Range, range_at, IsRangeOf, Clash, IsFirstFault, is_proper}
+use Rattle.asm_state.specs.Updates.{UpdateSet, Has, IsConsistent, Range, range_at, IsRangeOf, is_proper}
 use Rattle.asm_state.proofs.LocationLemmas.NumberedLocations.{number_laws}
 use Rattle.asm_state.proofs.UpdateLemmas.Summaries.{summary_laws}
 use Rattle.asm_updates.specs.code.SummaryRanges.{SummaryRanges, range, AreRanges}
@@ -29,14 +27,6 @@ held_function shape (Stray f) held = slice_get_within shape.functions f held.0 h
 -- a location of a signature is of one of its functions
 pub function_inside : (shape : Shape) (l : Location) → IsLocationOf shape l → function_of l < functions_of shape
 function_inside shape l here = held_function shape l (number_laws.is_held shape l here)
-
--- a clash is at a location of the signature: past them there is none but a stray one
-pub clash_inside : (shape : Shape) (U : UpdateSet) (n : ℕ) (r : Range) → IsFirstFault U (Clash (location_at shape n) r) → n < count_of shape
-clash_inside shape U n r first =
-    elim (cases_lt n (count_of shape)) [
-      | inl inside ↦ inside
-      | inr past ↦ absurd (subst (λ l. IsFirstFault U (Clash l r)) (get_or_past (locations shape) n (Stray 0) past) first)
-    ]
 
 -- ---- the lines of a set
 

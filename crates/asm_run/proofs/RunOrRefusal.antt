@@ -1,6 +1,5 @@
 -- Free. Each text, script and limits have a run or a refusal.
 use Rattle.std.proofs.Common.{◌≡◌, ◌⊎◌, ℕ, Bool, true, false, List, [], Some, inl, inr, refl, sym, subst}
-use Rattle.asm_state.specs.Updates.{Fault, Clash, Outside, IsFirstFault}
 use Rattle.asm_syntax.specs.SourceTree.{Spec}
 use Rattle.asm_reader.specs.declared.error.ReadError.{ReadError}
 use Rattle.asm_reader.specs.declared.script_error.ScriptError.{ScriptError}
@@ -26,17 +25,14 @@ use Rattle.asm_run.specs.Headline.{IsAccepted, IsReturned, IsDone, Explains, boo
 use Rattle.asm_limits.specs.Limits.{are_in_range}
 use Rattle.asm_run.specs.Trace.{TraceNames, IsEndText}
 use Rattle.asm_run.specs.Written.{names_in}
+use Rattle.asm_run.proofs.EndTexts.{fault_returned}
 use Rattle.asm_run.proofs.Traces.{some_trace}
 
 -- an end that has a line has a result
 answer_of : (names : TraceNames) (e : run.End) (line : List ℕ) → IsEndText names e line → (answer : End) × IsReturned e answer
 answer_of names AtLimit line is = (end.Limit, refl)
-answer_of names (AtExhausted i p) line is = (end.Exhausted, refl)
-answer_of names (AtFault i U) line is = by_fault is.0 is.1
-  where
-    by_fault : (f : Fault) → IsFirstFault U f → (answer : End) × IsReturned (AtFault i U) answer
-    by_fault (Clash l r) first = (end.Clash, (l, r, first))
-    by_fault (Outside f) first = (end.Outside, (f, first))
+answer_of names (AtExhausted i p) line is = (end.Exhausted i p, refl)
+answer_of names (AtFault i U) line is = fault_returned U i is.0 is.1
 
 -- each fault is of a kind
 kind_of : {s : Spec} {at n : ℕ} → IsFault s at n → (kind : FaultKind) × (number_of kind ≡ n)

@@ -7,7 +7,7 @@ use Rattle.asm_state.specs.Location.{Location, State}
 use Rattle.asm_state.specs.Updates.{UpdateSet}
 use Rattle.asm_state.proofs.UpdateLemmas.Faults.{fault_laws}
 use Rattle.asm_meaning.specs.Run.{Run, FiredStep, End, AtLimit, AtExhausted, AtFault, ended, fired}
-use Rattle.asm_run.specs.Trace.{TraceNames, step_text, steps_text, IsEndText, fault_text, state_text}
+use Rattle.asm_run.specs.Trace.{TraceNames, step_text, steps_text, IsEndText, at_step, end_line, fault_words, state_text}
 use Rattle.asm_run.specs.Sink.{AppendsFront}
 use Rattle.asm_run.specs.Headline.{IsWritten, IsCut, AreWholeSteps}
 use Rattle.asm_run.specs.code.RunSoFar.{IsReached}
@@ -18,7 +18,7 @@ pub one_end_text : (names : TraceNames) (e : End) (s t : List ℕ) → IsEndText
 one_end_text names AtLimit s t p q = p ∙ sym q
 one_end_text names (AtExhausted i path) s t p q = p ∙ sym q
 one_end_text names (AtFault i U) s t p q =
-    p.2 ∙ ap (fault_text names i) (fault_laws.one_first U p.0 q.0 p.1 q.1) ∙ sym q.2
+    p.2 ∙ ap (λ f. end_line (fault_words names (at_step i) f)) (fault_laws.one_first U p.0 q.0 p.1 q.1) ∙ sym q.2
 
 abbrev step_of : UpdateSet → ℕ → FiredStep
 step_of U n = record { set = U; instances = n }

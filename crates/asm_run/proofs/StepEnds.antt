@@ -1,40 +1,36 @@
 -- Free. Each way that a step of a run can go.
 use Rattle.std.proofs.Common.{◌≡◌, ℕ, suc, ◌+◌, ◌-◌, ◌<◌, ◌≤◌, Bool, true, false, cond, List, [], ◌++◌, Option, Some, None, Result, Ok, Err, refl, sym, ap, subst, ◌∙◌, arith}
-use Rattle.std.specs.Prelude.{codes}
 use Rattle.std.specs.Io.KnownBytes.{Appends}
 use Rattle.std.proofs.lemmas.List.{append-nil}
 use Rattle.std.proofs.lemmas.Bool.{false_from_ne_true}
 use Rattle.asm_state.specs.declared.value.Value.{Value}
 use Rattle.asm_state.specs.Location.{Location, Proper, Stray, State}
-use Rattle.asm_state.specs.Signature.{location_at, initial_state, state_of}
+use Rattle.asm_state.specs.Signature.{initial_state, state_of}
 use Rattle.asm_state.specs.Updates.{UpdateSet, IsConsistent, is_consistent, fire, Clash, Outside, IsFirstFault}
 use Rattle.asm_state.proofs.UpdateLemmas.Faults.{fault_laws}
 use Rattle.asm_state.proofs.UpdateLemmas.Updates.{test_laws}
 use Rattle.asm_syntax.specs.SourceTree.{Spec}
 use Rattle.asm_check.specs.Faults.{IsWellFormed, inits}
 use Rattle.asm_check.specs.Shapes.{shape_of}
-use Rattle.asm_updates.specs.code.SummaryRanges.{range}
-use Rattle.asm_updates.specs.code.Faults.{fault_of}
-use Rattle.asm_updates.specs.declared.fault.Fault.{Fault}
-use Rattle.asm_updates.specs.declared.fault.Fault.TheVariants as fault
 use Rattle.asm_meaning.specs.Declarations.{program_of, main_rule}
 use Rattle.asm_reader.specs.ScriptLines.{Script}
 use Rattle.asm_meaning.specs.Does.{Outcome}
 use Rattle.asm_meaning.specs.Yields.{Path, Result as Yielded, Gives, Exhausted}
+use Rattle.asm_meaning.specs.Run as run
 use Rattle.asm_meaning.specs.Run.{Run, run_from, step_and, ended, fired, AtLimit, AtExhausted, AtFault}
 use Rattle.asm_run.specs.declared.end.End.{End}
 use Rattle.asm_run.specs.declared.end.End.TheVariants.{Limit}
 use Rattle.asm_run.specs.declared.end.End.TheVariants as end
-use Rattle.asm_run.specs.declared.step.StepStop.{StepStop}
-use Rattle.asm_run.specs.declared.step.StepStop.TheVariants as stop
 use Rattle.asm_run.specs.declared.error.RunError.{RunError}
 use Rattle.asm_run.specs.declared.error.RunError.TheVariants as error
+use Rattle.asm_run.specs.Ends.{end_words_with}
 use Rattle.asm_run.specs.Sink.{AppendsFront}
-use Rattle.asm_run.specs.Trace.{TraceNames, IsEndText, step_text, exhausted_line, line_end}
+use Rattle.asm_run.specs.Trace.{TraceNames, IsEndText, at_step, end_line, step_text}
 use Rattle.asm_run.specs.Written.{names_in, locations_in, contents_text}
 use Rattle.asm_run.specs.Headline.{IsReturned, book_run}
-use Rattle.asm_run.specs.code.Step.{main_outcome, AreSized, IsFired, IsAtFault, IsStopped, Finishes, fault_line, end_of_fault, stop_line, end_of_stop}
+use Rattle.asm_run.specs.code.Step.{EndsBy, main_outcome, AreSized, IsFired, IsStopped, Finishes}
 use Rattle.asm_run.specs.code.RunSoFar.{IsReached, RunsSteps, GoesOnFrom}
+use Rattle.asm_run.proofs.EndTexts.{line_of_end}
 use Rattle.asm_run.proofs.TextLemmas.StepText.{state_written}
 use Rattle.asm_run.proofs.RunSoFar.{reached_more, cut_in_step, written_at_end, cut_at_end, whole_steps}
 
@@ -81,11 +77,12 @@ first_fault_is_faulty U (Clash (Proper f vs) r) h consistent = (fault_laws.no_fa
 first_fault_is_faulty U (Clash (Stray f) r) h consistent = absurd h
 first_fault_is_faulty U (Outside f) h consistent = (fault_laws.no_fault U).0 consistent (Stray f) h.is_faulty
 
--- ---- the result for a fault
-
-fault_answered : (s : Spec) (U : UpdateSet) (i : ℕ) (f : Fault) → IsFirstFault U (fault_of (shape_of s) f) → IsReturned (AtFault i U) (end_of_fault f)
-fault_answered s U i (fault.Clash n low high) h = (location_at (shape_of s) n, range (low, high), h)
-fault_answered s U i (fault.Outside f) h = (f, h)
+-- nor is one by which a run ends
+returned_is_faulty : (i : ℕ) (U : UpdateSet) (e : End) → IsReturned (AtFault i U) e → ¬ (IsConsistent U)
+returned_is_faulty i U end.Limit is = absurd is
+returned_is_faulty i U (end.Exhausted j p) is = absurd is
+returned_is_faulty i U (end.Clash j f vs v w) is = first_fault_is_faulty U (Clash (Proper f vs) (record { least = v; greatest = w })) is.1
+returned_is_faulty i U (end.Outside j f) is = first_fault_is_faulty U (Outside f) is.1
 
 -- ---- from one step to the next
 
@@ -127,11 +124,17 @@ module _ (s : Spec) (good : IsWellFormed s) (turns : ℕ) (script : Script) (ste
     finished (Err (error.Check refusal)) f at_end = f
     finished (Err (error.Script refusal)) f at_end = f
 
+  -- the last lines are those of the end that is returned
+  ended_so : (new : Option (List ℕ)) (flag : Bool) (e : run.End) (answer : End) → IsReturned e answer → (result : Result End RunError)
+      → Finishes mid new flag (end_line (end_words_with called at_step answer) ++ contents_text s contents) answer result
+      → left_of (steps - made) (1 + made) contents ≡ ended e (state_of (shape_of s) contents) → now flag new result
+  ended_so new flag e answer is result = finished new flag e (end_line (end_words_with called at_step answer)) (line_of_end called e answer is) answer is result
+
   pub at_limit : (new : Option (List ℕ)) (flag : Bool) (result : Result End RunError) → steps ≤ made
-      → Finishes mid new flag ((codes "end limit" ++ line_end) ++ contents_text s contents) Limit result → now flag new result
+      → Finishes mid new flag (end_line (end_words_with called at_step Limit) ++ contents_text s contents) Limit result → now flag new result
   at_limit new flag result all f =
       let none : steps - made ≡ 0 = omega arith in
-      finished new flag AtLimit (codes "end limit" ++ line_end) refl Limit refl result f (ap (λ n. left_of n (1 + made) contents) none)
+      ended_so new flag AtLimit Limit refl result f (ap (λ n. left_of n (1 + made) contents) none)
 
   module _ (more : made < steps) (step : ℕ) (is : step ≡ 1 + made) where
     one_left : steps - made ≡ suc (steps - (made + 1))
@@ -141,36 +144,26 @@ module _ (s : Spec) (good : IsWellFormed s) (turns : ℕ) (script : Script) (ste
     abbrev outcome_at : ℕ → Outcome
     outcome_at i = main_outcome s turns script i contents
 
-    -- the set has a fault
-    at_fault : (new : Option (List ℕ)) (flag : Bool) (result : Result End RunError) (next : List Value) (f : Fault) → IsAtFault s turns script step contents f → next ≡ contents
-        → Finishes mid new flag (fault_line s step f ++ contents_text s next) (end_of_fault f) result → now flag new result
-    at_fault new flag result next f stopped stays finish =
-        let U : UpdateSet = stopped.set in
-        let gives : (outcome_at (1 + made)).result ≡ Gives U = subst (λ i. (outcome_at i).result ≡ Gives U) is stopped.gives in
-        let line : fault_line s step f ≡ fault_line s (1 + made) f = ap (λ i. fault_line s i f) is in
-        finished new flag (AtFault (1 + made) U) (fault_line s step f) (fault_of (shape_of s) f, stopped.is_first, line)
-        (end_of_fault f) (fault_answered s U (1 + made) f stopped.is_first) result
-        (subst (λ v. Finishes mid new flag (fault_line s step f ++ contents_text s v) (end_of_fault f) result) stays finish)
-        (ap (λ n. left_of n (1 + made) contents) one_left
-        ∙ stops s turns script (steps - (made + 1)) (1 + made) contents U gives (first_fault_is_faulty U (fault_of (shape_of s) f) stopped.is_first))
-
-    -- the main rule is exhausted
-    at_exhausted : (new : Option (List ℕ)) (flag : Bool) (result : Result End RunError) (next : List Value) (q : Path) → (outcome_at step).result ≡ Exhausted q → next ≡ contents
-        → Finishes mid new flag (exhausted_line step q ++ contents_text s next) end.Exhausted result → now flag new result
-    at_exhausted new flag result next q gives stays finish =
-        finished new flag (AtExhausted (1 + made) q) (exhausted_line step q) (ap (λ i. exhausted_line i q) is)
-        end.Exhausted refl result
-        (subst (λ v. Finishes mid new flag (exhausted_line step q ++ contents_text s v) end.Exhausted result) stays finish)
-        (ap (λ n. left_of n (1 + made) contents) one_left
-        ∙ exhausts s turns script (steps - (made + 1)) (1 + made) contents q (subst (λ i. (outcome_at i).result ≡ Exhausted q) is gives))
+    module _ (new : Option (List ℕ)) (flag : Bool) (result : Result End RunError) (answer : End)
+        (finish : Finishes mid new flag (end_line (end_words_with called at_step answer) ++ contents_text s contents) answer result) where
+      stopped_by : (r : Yielded) → (outcome_at (1 + made)).result ≡ r → EndsBy (1 + made) r answer → now flag new result
+      stopped_by (Gives U) gives is_end =
+          ended_so new flag (AtFault (1 + made) U) answer is_end result finish
+          (ap (λ n. left_of n (1 + made) contents) one_left
+          ∙ stops s turns script (steps - (made + 1)) (1 + made) contents U gives (returned_is_faulty (1 + made) U answer is_end))
+      stopped_by (Exhausted q) gives is_end =
+          ended_so new flag (AtExhausted (1 + made) q) answer is_end result finish
+          (ap (λ n. left_of n (1 + made) contents) one_left
+          ∙ exhausts s turns script (steps - (made + 1)) (1 + made) contents q gives)
 
     -- the run ends at this step
-    pub at_stop : (new : Option (List ℕ)) (flag : Bool) (result : Result End RunError) (next : List Value) (q path : Path) (at : StepStop) → IsStopped s turns script step contents next q at → path ≡ q
-        → Finishes mid new flag (stop_line s step at path ++ contents_text s next) (end_of_stop at) result → now flag new result
-    at_stop new flag result next q path (stop.Fault f) stopped same finish = at_fault new flag result next f stopped.0 stopped.1 finish
-    at_stop new flag result next q path stop.Exhausted stopped same finish =
-        at_exhausted new flag result next q stopped.0 stopped.1
-        (subst (λ p. Finishes mid new flag (exhausted_line step p ++ contents_text s next) end.Exhausted result) same finish)
+    pub at_stop : (new : Option (List ℕ)) (flag : Bool) (result : Result End RunError) (next : List Value) (answer : End) → IsStopped s turns script step contents next answer
+        → Finishes mid new flag (end_line (end_words_with called at_step answer) ++ contents_text s next) answer result → now flag new result
+    at_stop new flag result next answer stopped finish =
+        stopped_by new flag result answer
+        (subst (λ v. Finishes mid new flag (end_line (end_words_with called at_step answer) ++ contents_text s v) answer result) stopped.1 finish)
+        (outcome_at (1 + made)).result refl
+        (subst (λ i. EndsBy i (outcome_at i).result answer) is stopped.0)
 
     module _ (next : List Value) (text : List ℕ) (step_fired : IsFired s turns script step contents next text) where
       abbrev U : UpdateSet

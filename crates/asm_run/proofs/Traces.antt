@@ -11,7 +11,7 @@ use Rattle.asm_meaning.specs.Yields.{Result, Gives, Exhausted}
 use Rattle.asm_reader.specs.ScriptLines.{Script}
 use Rattle.asm_meaning.specs.Does.{does}
 use Rattle.asm_meaning.specs.Run.{Run, End, AtFault, ended, fired, step_and, run_from}
-use Rattle.asm_run.specs.Trace.{TraceNames, IsEndText, fault_text, steps_text, state_text}
+use Rattle.asm_run.specs.Trace.{TraceNames, IsEndText, at_step, end_line, fault_words, steps_text, state_text}
 use Rattle.asm_run.specs.code.Traces.{OneTrace, SomeTrace}
 use Rattle.asm_run.specs.Written.{names_in, locations_in}
 use Rattle.asm_run.specs.Headline.{book_run}
@@ -29,7 +29,7 @@ module _ (names : TraceNames) (program : Program) (turns : ℕ) (main : Rule) wh
   by_test U m i A rest true e h = h
   by_test U m i A rest false e h =
       let first = fault_laws.has_first U (λ consistent. let yes : is_consistent U ≡ true = (test_laws.consistency U).1 consistent in absurd cc) in
-      (fault_text names i first.0, (first.0, first.1, refl))
+      (end_line (fault_words names (at_step i) first.0), (first.0, first.1, refl))
 
   by_result : (r : Result) (m i : ℕ) (A : State) (rest : UpdateSet → Run) → ((U : UpdateSet) → HasLine names (rest U).end) → HasLine names (step_and program turns main r m i A rest).end
   by_result (Exhausted q) m i A rest h = (_, refl)

@@ -9,8 +9,8 @@
 --     Runs                               what the call that makes the run promises
 use Rattle.std.specs.Prelude.{◌≡◌, ◌⊎◌, ◌↔◌, ◌<◌, ℕ, Bool, false, true, List, [], ◌++◌, length, take, Option, Result, Err, IsTrue, IfOk, IfErr}
 use Rattle.std.specs.Io.KnownBytes.{Appends}
-use Rattle.asm_state.specs.Location.{Location}
-use Rattle.asm_state.specs.Updates.{Range, Clash, Outside, IsFirstFault}
+use Rattle.asm_state.specs.Location.{Location, Proper}
+use Rattle.asm_state.specs.Updates.{Clash, Outside, IsFirstFault}
 use Rattle.asm_syntax.specs.declared.error.LexError.TheVariants.{TooLong}
 use Rattle.asm_syntax.specs.SourceTree.{Spec}
 use Rattle.asm_syntax.specs.code.Lexing.{HasFirstToken}
@@ -46,14 +46,14 @@ book_run s turns script steps = run.run (specification_of s) turns script steps
 
 -- ---- runs from any step on, with these names and locations
 
--- the result for an end
+-- what is returned of an end: all that the line of it says
 abbrev pub IsReturned : run.End → End → Type 0
 IsReturned AtLimit e = e ≡ end.Limit
-IsReturned (AtExhausted i p) e = e ≡ end.Exhausted
+IsReturned (AtExhausted i p) e = e ≡ end.Exhausted i p
 IsReturned (AtFault i U) end.Limit = ⊥
-IsReturned (AtFault i U) end.Exhausted = ⊥
-IsReturned (AtFault i U) end.Clash = (l : Location) × (r : Range) × IsFirstFault U (Clash l r)
-IsReturned (AtFault i U) end.Outside = (f : ℕ) × IsFirstFault U (Outside f)
+IsReturned (AtFault i U) (end.Exhausted j p) = ⊥
+IsReturned (AtFault i U) (end.Clash j f vs least greatest) = (j ≡ i) × IsFirstFault U (Clash (Proper f vs) (record { least = least; greatest = greatest }))
+IsReturned (AtFault i U) (end.Outside j f) = (j ≡ i) × IsFirstFault U (Outside f)
 
 module _ (names : TraceNames) (ls : List Location) (first : ℕ) where
   -- known bytes grow by the trace of the run

@@ -44,9 +44,9 @@ module _ (text script_text : List ℕ) where
 
     abbrev pub ResultTells : Result End RunError → Type 0
     ResultTells (Ok end.Limit) = MakesAllSteps
-    ResultTells (Ok end.Clash) = EndsEarly
-    ResultTells (Ok end.Outside) = EndsEarly
-    ResultTells (Ok end.Exhausted) = EndsEarly
+    ResultTells (Ok (end.Clash i f vs least greatest)) = EndsEarly
+    ResultTells (Ok (end.Outside i f)) = EndsEarly
+    ResultTells (Ok (end.Exhausted i p)) = EndsEarly
     ResultTells (Err (error.Read e)) = IsRefused
     ResultTells (Err (error.Check e)) = IsRefused
     ResultTells (Err (error.Script e)) = IsRefused

@@ -79,19 +79,32 @@ steps_text names ls i (step ∷ steps) = step_text names ls i step ++ steps_text
 
 -- ---- the end
 
-abbrev pub fault_text : TraceNames → ℕ → Fault → List ℕ
-fault_text names i (Clash l r) =
-    codes "end clash step " ++ (decimal i ++ (codes " " ++ (location_text names l
-    ++ (codes " least " ++ (value_text names.elements r.least ++ (codes " greatest " ++ (value_text names.elements r.greatest ++ line_end)))))))
-fault_text names i (Outside f) = codes "end outside step " ++ (decimal i ++ (codes " " ++ (function_text names f ++ line_end)))
+-- a location, with the least and the greatest of its values
+abbrev pub clash_text : TraceNames → Location → Range → List ℕ
+clash_text names l r =
+    location_text names l
+    ++ (codes " least " ++ (value_text names.elements r.least ++ (codes " greatest " ++ value_text names.elements r.greatest)))
 
-abbrev pub exhausted_line : (step : ℕ) → Path → List ℕ
-exhausted_line i p = codes "end exhausted step " ++ (decimal i ++ (codes " place " ++ (path_text p ++ line_end)))
+-- a fault in words, with these between its kind and what it is
+abbrev pub fault_words : TraceNames → (between : List ℕ) → Fault → List ℕ
+fault_words names between (Clash l r) = codes "clash" ++ (between ++ clash_text names l r)
+fault_words names between (Outside f) = codes "outside" ++ (between ++ function_text names f)
+
+-- the same of an exhausted rule at this path
+abbrev pub exhausted_words : (between : List ℕ) → Path → List ℕ
+exhausted_words between p = codes "exhausted" ++ (between ++ (codes "place " ++ path_text p))
+
+-- what a trace has there, for the step in which it ends
+abbrev pub at_step : ℕ → List ℕ
+at_step i = codes " step " ++ (decimal i ++ codes " ")
+
+abbrev pub end_line : (words : List ℕ) → List ℕ
+end_line words = codes "end " ++ (words ++ line_end)
 
 abbrev pub IsEndText : TraceNames → End → List ℕ → Type 0
-IsEndText names AtLimit text = text ≡ codes "end limit" ++ line_end
-IsEndText names (AtExhausted i p) text = text ≡ exhausted_line i p
-IsEndText names (AtFault i U) text = (fault : Fault) × IsFirstFault U fault × (text ≡ fault_text names i fault)
+IsEndText names AtLimit text = text ≡ end_line (codes "limit")
+IsEndText names (AtExhausted i p) text = text ≡ end_line (exhausted_words (at_step i) p)
+IsEndText names (AtFault i U) text = (fault : Fault) × IsFirstFault U fault × (text ≡ end_line (fault_words names (at_step i) fault))
 
 abbrev pub content_text : TraceNames → Location → Value → List ℕ
 content_text names l Undef = []

@@ -3,6 +3,7 @@ pub mod Exclusion
 pub mod Hands
 pub mod KeptTexts
 pub mod Machine
+pub mod PartTexts
 pub mod RefusedRuns
 pub mod Rounds
 pub mod RunSoFar

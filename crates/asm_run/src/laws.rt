@@ -1,5 +1,5 @@
 //! Laws of traces and of refusals.
-ghost use Rattle.asm_run.specs.code.Traces.{OneTrace, SomeTrace};
+ghost use Rattle.asm_run.specs.code.Traces.{LineOfEnd, OneTrace, SomeTrace};
 ghost use Rattle.asm_run.specs.ResultsTell.{ResultsTell};
 ghost use Rattle.asm_run.specs.code.Exclusion.{OneNamedRefusal, NoRunBesideARefusal, RunOrRefusal};
 
@@ -17,6 +17,11 @@ pub fn one_trace()
 /// Each run of a specification has a trace.
 pub fn some_trace()
     ensures { SomeTrace }
+{}
+
+/// The end that a run returns, in words and with its step, is the line of it in the trace.
+pub fn line_of_end()
+    ensures { LineOfEnd }
 {}
 
 /// A text, a script and limits have one refusal at most that is of one of them.

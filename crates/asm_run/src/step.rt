@@ -7,20 +7,22 @@ ghost use Rattle.asm_run.specs.code.Machine.{HasMainRule};
 ghost use Rattle.asm_run.specs.code.Step.{AreSized, IsFired, IsStopped, main_outcome};
 ghost use Rattle.asm_run.specs.Written.{AreTextsOf};
 
+use crate::end::End;
 use crate::location_texts::LocationTexts;
 use crate::pooled::Pooled;
 use crate::resolved_specification::ResolvedSpecification;
+use crate::step_end::end_at_fault;
 use crate::trace::push_step;
 use asm_eval::evaluation::Evaluation;
 use asm_eval::frame::Frame;
-use asm_meaning::{Choices, Forming, Stopped, View};
+use asm_meaning::{Choices, Forming, Path, Stopped, View};
 use asm_pool::Gate;
 use asm_reader::Picks;
 use asm_resolve::laws::resolving_laws;
 use asm_state::state::State;
-use asm_updates::fault::Fault;
 use asm_updates::summary::Summary;
 use std::alloc::{AllocError, Global};
+use std::mem;
 use std::thread::Threads;
 
 /// Forms what the main rule yields, instead of what was formed before.
@@ -53,17 +55,8 @@ fn form_main<'a, R: Threads + Sync, G: Gate + Sync, P: Picks + Sync>(
     pooled.form(alloc, &evaluation, &Frame::Empty, resolved.code, forming)
 }
 
-/// Why a run ends at a step.
-#[derive(Clone, Copy, Debug, PartialEq, Eq)]
-pub enum StepStop {
-    /// The step's set has this first fault.
-    Fault(Fault),
-    /// There is no set: an `iterate` has made its last turn, the one at the path of the forming.
-    Exhausted,
-}
-
 /// Forms the set of a step. Fires it and replaces what was there with the text of the step, or
-/// returns why the run ends.
+/// returns the end of the run.
 pub fn make_step<R: Threads + Sync, G: Gate + Sync, P: Picks + Sync>(
     alloc: Global,
     pooled: &Pooled<'_, R, G>,
@@ -73,22 +66,30 @@ pub fn make_step<R: Threads + Sync, G: Gate + Sync, P: Picks + Sync>(
     forming: &mut Forming,
     text: &mut Vec<u8>,
     texts: &mut LocationTexts,
-) -> Result<Option<StepStop>, AllocError>
+) -> Result<Option<End>, AllocError>
     requires sized { AreSized (spec_of resolved.now.checked.now.spec) state.old forming.old.set.count }
     requires main { HasMainRule resolved.now }
     requires known { AreTextsOf (spec_of resolved.now.checked.now.spec) texts.old }
     ensures known { OnOk result (AreTextsOf (spec_of resolved.now.checked.now.spec) texts.new) }
     ensures sized { OnOk result (AreSized (spec_of resolved.now.checked.now.spec) state.new forming.new.set.count) }
-    ensures fired { IfOk result (λ stop. IfNone stop (IsFired (spec_of resolved.now.checked.now.spec) resolved.now.turns (P.script choices.now.script.now) choices.now.step state.old state.new text.new.items)) }
-    ensures stopped { IfOk result (λ stop. IfSome stop (IsStopped (spec_of resolved.now.checked.now.spec) resolved.now.turns (P.script choices.now.script.now) choices.now.step state.old state.new forming.new.path.items)) }
+    ensures fired { IfOk result (λ end. IfNone end (IsFired (spec_of resolved.now.checked.now.spec) resolved.now.turns (P.script choices.now.script.now) choices.now.step state.old state.new text.new.items)) }
+    ensures stopped { IfOk result (λ end. IfSome end (IsStopped (spec_of resolved.now.checked.now.spec) resolved.now.turns (P.script choices.now.script.now) choices.now.step state.old state.new)) }
 {
     match form_main(alloc, pooled, resolved, choices, state, forming) {
         Ok(()) => {}
-        Err(Stopped::Exhausted) => return Ok(Some(StepStop::Exhausted)),
+        Err(Stopped::Exhausted) => {
+            let path = mem::replace(&mut forming.path, Vec::new(alloc));
+            return Ok(Some(End::Exhausted {
+                step: choices.step,
+                path: Path::new(path),
+            }));
+        }
         Err(Stopped::Memory) => return Err(AllocError),
     }
-    if let Some(fault) = forming.set.first_fault(resolved.checked.signature()) {
-        return Ok(Some(StepStop::Fault(fault)));
+    let signature = resolved.checked.signature();
+    if let Some(fault) = forming.set.first_fault(signature) {
+        let end = end_at_fault(alloc, signature, choices.step, fault)?;
+        return Ok(Some(end));
     }
     forming.set.sort()?;
     text.clear();

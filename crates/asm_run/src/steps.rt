@@ -8,7 +8,7 @@ ghost use Rattle.asm_run.specs.Written.{names_in, locations_in};
 
 use crate::end::End;
 use crate::error::RunError;
-use crate::finish::{finish_at_limit, finish_at_stop};
+use crate::finish::finish;
 use crate::location_texts::LocationTexts;
 use crate::pooled::Pooled;
 use crate::resolved_specification::ResolvedSpecification;
@@ -47,7 +47,7 @@ pub fn run_steps<R: Threads + Sync, G: Gate + Sync, S: Sink, P: Picks + Sync>(
             script,
             step: u64::from(done) + 1,
         };
-        let stop = make_step(
+        let end = make_step(
             alloc,
             pooled,
             resolved,
@@ -57,20 +57,10 @@ pub fn run_steps<R: Threads + Sync, G: Gate + Sync, S: Sink, P: Picks + Sync>(
             &mut text,
             &mut texts,
         )?;
-        if let Some(stop) = stop {
-            let path = forming.path.as_slice();
-            return finish_at_stop(
-                alloc,
-                &mut text,
-                checked,
-                choices.step,
-                stop,
-                path,
-                &state,
-                out,
-            );
+        if let Some(end) = end {
+            return finish(alloc, &mut text, checked, end, &state, out);
         }
         write_all(out, text.as_slice())?;
     }
-    finish_at_limit(alloc, &mut text, checked, &state, out)
+    finish(alloc, &mut text, checked, End::Limit, &state, out)
 }

@@ -10,7 +10,7 @@ ghost use Rattle.asm_run.specs.Written.{AreTextsOf, assigned_text, entry_line, n
 use crate::buffer::push_text;
 use crate::line::Line;
 use crate::location_texts::LocationTexts;
-use crate::locations::{push_element, push_location};
+use crate::locations::{push_element, push_known_location};
 use asm_check::Checked;
 use asm_state::value::Value;
 use asm_state::word::Word;
@@ -32,7 +32,7 @@ fn push_new_location(
 {
     let location = checked.signature().location(alloc, n)?;
     let start = out.len();
-    push_location(out, checked, &location)?;
+    push_known_location(out, checked, &location)?;
     let (_, text) = out.as_slice().split_at(start);
     texts.keep(n, text)
 }

@@ -2,6 +2,7 @@
 use asm_limits::run_limits::{DEFAULTS, Limits};
 
 mod beginnings;
+mod ends;
 mod refusals;
 mod shown;
 mod sinks;

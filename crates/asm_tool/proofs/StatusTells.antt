@@ -22,6 +22,7 @@ use Rattle.asm_meaning.specs.Run.{AtLimit}
 use Rattle.asm_run.specs.Headline.{IsAccepted, IsFaulty, book_run}
 use Rattle.asm_run.specs.ResultsTell as run
 use Rattle.asm_run.specs.ResultsTell.{EndsEarly, HasEnd, IsRefused, MakesAllSteps}
+use Rattle.asm_run.specs.Ends.{kind_of}
 use Rattle.asm_run.specs.declared.end.End.{End}
 use Rattle.asm_run.specs.declared.end.End.TheVariants.{Limit, Clash, Outside, Exhausted}
 use Rattle.asm_run.specs.declared.error.RunError.{RunError}
@@ -46,11 +47,11 @@ module _ (text script_text : List ℕ) (limits : Limits) where
   pub beyond : (n : ℕ) → 3 ≤ n → StatusTells text script_text limits n
   beyond n high = record { whole = λ e. absurd (omega arith); early = λ e. absurd (omega arith); refused = λ e. absurd (omega arith) }
 
-  pub at_end : (end : End) → run.ResultTells text script_text limits (Ok end) → StatusTells text script_text limits (status_at end)
+  pub at_end : (end : End) → run.ResultTells text script_text limits (Ok end) → StatusTells text script_text limits (status_at (kind_of end))
   at_end Limit told = at_zero told
-  at_end Clash told = at_one told
-  at_end Outside told = at_one told
-  at_end Exhausted told = at_one told
+  at_end (Clash i f vs v w) told = at_one told
+  at_end (Outside i f) told = at_one told
+  at_end (Exhausted i p) told = at_one told
 
   pub at_fault : (e : RunError) → run.ResultTells text script_text limits (Err e) → StatusTells text script_text limits (status_of (run_fault e))
   at_fault (error.Read e) told = at_two told

@@ -22,7 +22,8 @@ use Rattle.asm_run.specs.Headline.{AreWholeSteps, IsAccepted, IsBegun, IsCut, Is
 use Rattle.asm_limits.specs.Limits.{are_in_range}
 use Rattle.asm_run.specs.Written.{names_in, locations_in}
 use Rattle.asm_run.specs.declared.end.End.{End}
-use Rattle.asm_run.specs.declared.end.End.TheVariants.{Limit, Clash, Outside, Exhausted}
+use Rattle.asm_run.specs.declared.end.EndKind.{EndKind}
+use Rattle.asm_run.specs.declared.end.EndKind.TheVariants.{Limit, Clash, Outside, Exhausted}
 use Rattle.asm_run.specs.declared.error.RunError.{RunError}
 use Rattle.asm_run.specs.declared.error.RunError.TheVariants as error
 use Rattle.asm_limits.specs.declared.run_limits.Limits.{Limits}
@@ -185,13 +186,13 @@ module _ (words : List Text) (contents : Text → Option (List ℕ)) (input old 
     of_slices : (P : List ℕ → List ℕ → Limits → Type 0) → P slice script_slice s.limits → P text script_text s.limits
     of_slices P h = subst (λ (x : List ℕ). P text x s.limits) same_script (subst (λ (x : List ℕ). P x script_slice s.limits) same h)
 
-    pub whole_of_words : (r : Result End Fault) → IfOk r (λ _. IsWholeTrace old new slice script_slice s.limits) → IfOk r (λ _. OfWords words contents input (IsWholeTrace old new))
+    pub whole_of_words : (r : Result EndKind Fault) → IfOk r (λ _. IsWholeTrace old new slice script_slice s.limits) → IfOk r (λ _. OfWords words contents input (IsWholeTrace old new))
     whole_of_words (Ok e) h =
         holds_of_words (IsWholeTrace old new) (λ a b l. run_fronts a b l _) (λ a b l other steps turns. run_alike a b l _ other steps turns)
         words contents input s text script_text said read read_script (of_slices (IsWholeTrace old new) h)
     whole_of_words (Err e) h = tt
 
-    pub explains_of_words : (r : Result End Fault) → IfErr r (λ fault. Explains fault old new slice script_slice s.limits) → IfErr r (λ fault. LeavesUnwritten fault old new)
+    pub explains_of_words : (r : Result EndKind Fault) → IfErr r (λ fault. Explains fault old new slice script_slice s.limits) → IfErr r (λ fault. LeavesUnwritten fault old new)
         → IfErr r (ExplainsOfWords words contents input old new)
     explains_of_words (Ok e) h unwritten = tt
     explains_of_words (Err fault) h unwritten = record {
@@ -233,7 +234,7 @@ module _ (words : List Text) (contents : Text → Option (List ℕ)) (input old 
 
 -- ---- statuses
 
-pub ends_low : (e : End) → status_at e ≤ 1
+pub ends_low : (e : EndKind) → status_at e ≤ 1
 ends_low Limit = omega arith
 ends_low Clash = omega arith
 ends_low Outside = omega arith

@@ -13,8 +13,8 @@ use Rattle.std.specs.declared.io.ErrorKind.TheVariants.{OutOfMemory}
 use Rattle.clap.specs.Simple.{matches_of}
 use Rattle.clap.specs.Walk.{Row, Text, first_of}
 use Rattle.asm_run.specs.ResultsTell.{EndsEarly, IsRefused, MakesAllSteps}
-use Rattle.asm_run.specs.declared.end.End.{End}
-use Rattle.asm_run.specs.declared.end.End.TheVariants.{Limit, Clash, Outside, Exhausted}
+use Rattle.asm_run.specs.declared.end.EndKind.{EndKind}
+use Rattle.asm_run.specs.declared.end.EndKind.TheVariants.{Limit, Clash, Outside, Exhausted}
 use Rattle.asm_run.specs.declared.error.RunError.{RunError}
 use Rattle.asm_run.specs.declared.error.RunError.TheVariants as run
 use Rattle.asm_limits.specs.declared.run_limits.Limits.{Limits}
@@ -78,13 +78,13 @@ module _ (text script_text : List ℕ) (limits : Limits) where
     pub early : status ≡ 1 → EndsEarly text script_text limits
     pub refused : status ≡ 2 → IsRefused text script_text
 
-abbrev pub status_at : End → ℕ
+abbrev pub status_at : EndKind → ℕ
 status_at Limit = 0
 status_at Clash = 1
 status_at Outside = 1
 status_at Exhausted = 1
 
-abbrev pub status_in : Result End Fault → ℕ
+abbrev pub status_in : Result EndKind Fault → ℕ
 status_in (Ok end) = status_at end
 status_in (Err fault) = status_of fault
 

@@ -13,7 +13,7 @@ use crate::folder::Folder;
 use crate::input;
 use crate::output::Finish;
 use asm_limits::run_limits::Limits;
-use asm_run::end::End;
+use asm_run::end::EndKind;
 use asm_run::error::RunError;
 use asm_run::laws::results_tell;
 use asm_run::run::run;
@@ -61,12 +61,12 @@ pub fn status<
 }
 
 /// The status of a run whose trace is written whole.
-fn whole_trace(end: End) -> u8
+fn whole_trace(end: EndKind) -> u8
     ensures { result ≡ status_at end }
 {
     match end {
-        End::Limit => 0,
-        End::Clash | End::Outside | End::Exhausted => 1,
+        EndKind::Limit => 0,
+        EndKind::Clash | EndKind::Outside | EndKind::Exhausted => 1,
     }
 }
 
@@ -79,7 +79,7 @@ pub fn refusal<E: Sink>(fault: &Fault, err: &mut E) -> u8
     fault.status()
 }
 
-/// The end of the run, once its whole trace is written. The words come first, then the text, then
+/// How the run ends, once its whole trace is written. The words come first, then the text, then
 /// the script.
 fn run_words<R: Threads + Sync + AllocGlobal, F: Folder, S: AsStr, I: Read + Drop, O: Finish>(
     rt: &R,
@@ -87,7 +87,7 @@ fn run_words<R: Threads + Sync + AllocGlobal, F: Folder, S: AsStr, I: Read + Dro
     words: &[S],
     input: I,
     out: &mut O,
-) -> Result<End, Fault>
+) -> Result<EndKind, Fault>
     requires { O.has_failed out.old ≡ false }
     ensures taken { IfOk result (λ _. refusals (map S.text words.entry.now) ≡ []) }
     ensures refused { IfErr result (IsFaultOfWords (map S.text words.entry.now)) }
@@ -110,7 +110,7 @@ fn run_words<R: Threads + Sync + AllocGlobal, F: Folder, S: AsStr, I: Read + Dro
     )
 }
 
-/// The end of the run of this text with this script, once its whole trace is written.
+/// How the run of this text with this script ends, once its whole trace is written.
 fn run_texts<R: Threads + Sync, O: Finish>(
     rt: &R,
     alloc: Global,
@@ -118,7 +118,7 @@ fn run_texts<R: Threads + Sync, O: Finish>(
     script: &[u8],
     limits: &Limits,
     out: &mut O,
-) -> Result<End, Fault>
+) -> Result<EndKind, Fault>
     requires range { IsTrue (are_in_range limits.now) }
     requires open { O.has_failed out.old ≡ false }
     ensures low { IfErr result (λ fault. status_of fault ≤ 3) }
@@ -133,7 +133,7 @@ fn run_texts<R: Threads + Sync, O: Finish>(
     // What a run wrote before a refusal is shown too.
     let finished = out.finish();
     let end = match answer {
-        Ok(end) => end,
+        Ok(end) => end.kind(),
         Err(error) => return Err(refused_run(error)),
     };
     match finished {

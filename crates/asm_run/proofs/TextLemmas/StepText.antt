@@ -4,9 +4,9 @@ use Rattle.std.specs.Prelude.{codes, min}
 use Rattle.std.specs.List.Sorted.{IsStrictlyIncreasing}
 use Rattle.std.specs.Map.{keys_of}
 use Rattle.asm_state.specs.declared.value.Value.{Value}
-use Rattle.asm_state.specs.Location.{Stray, function_of}
+use Rattle.asm_state.specs.Location.{function_of}
 use Rattle.asm_state.specs.Signature.{Shape, count_of, location_at, state_of}
-use Rattle.asm_state.specs.Updates.{UpdateSet, IsConsistent, IsFirstFault, together, none}
+use Rattle.asm_state.specs.Updates.{UpdateSet, IsConsistent, together, none}
 use Rattle.asm_state.proofs.UpdateLemmas.UnionsAndMerges.{union_laws}
 use Rattle.asm_state.proofs.LocationLemmas.NumberedLocations.{number_laws}
 use Rattle.asm_syntax.specs.SourceTree.{Spec}
@@ -15,16 +15,12 @@ use Rattle.asm_check.specs.Numbers.{functions_of}
 use Rattle.asm_check.specs.Shapes.{shape_of}
 use Rattle.asm_check.proofs.NumberLemmas.SignatureNumbers.{signature_numbers}
 use Rattle.asm_check.proofs.NumberLemmas.SoundShapes.{shape_is_sound}
-use Rattle.asm_updates.specs.code.SummaryRanges.{SummaryRanges, range, AreRanges}
+use Rattle.asm_updates.specs.code.SummaryRanges.{SummaryRanges, AreRanges}
 use Rattle.asm_updates.specs.code.Stands.{Stands}
-use Rattle.asm_updates.specs.code.Faults.{fault_of}
-use Rattle.asm_updates.specs.declared.fault.Fault.{Fault}
-use Rattle.asm_updates.specs.declared.fault.Fault.TheVariants as fault
 use Rattle.asm_meaning.specs.code.FormedOutcomes.{greatest_count}
 use Rattle.asm_run.specs.Trace.{line_end, set_text, state_text, step_text}
 use Rattle.asm_run.specs.Written.{names_in, locations_in, step_line, entries_text, contents_text}
-use Rattle.asm_run.specs.code.Step.{IsFaultBelow}
-use Rattle.asm_run.proofs.ProperLocations.{function_inside, clash_inside, entries_are_set, contents_are_state}
+use Rattle.asm_run.proofs.ProperLocations.{function_inside, entries_are_set, contents_are_state}
 
 -- a set that is formed from nothing
 pub stands_alone : (shape : Shape) (summary : SummaryRanges) (U : UpdateSet) → Stands shape summary (together none U) → Stands shape summary U
@@ -46,13 +42,6 @@ pub step_written : (s : Spec) (summary : SummaryRanges) (U : UpdateSet) (step in
     → step_line step instances ++ entries_text s summary.ranges ≡ step_text (names_in s) (locations_in s) step (record { set = U; instances = all })
 step_written s summary U step instances all cut e =
     ap (λ n. step_line step n ++ entries_text s summary.ranges) cut ∙ ap (λ w. step_line step (min all greatest_count) ++ w) e ∙ simp append_assoc
-
--- a first fault is at a location, or a function, of the specification
-pub fault_below : (s : Spec) (summary : SummaryRanges) (U : UpdateSet) (f : Fault) → IsWellFormed s → Stands (shape_of s) summary U → IsFirstFault U (fault_of (shape_of s) f) → IsFaultBelow s f
-fault_below s summary U (fault.Clash n low high) good stands first = clash_inside (shape_of s) U n (range (low, high)) first
-fault_below s summary U (fault.Outside f) good stands first =
-    let inside = function_inside (shape_of s) (Stray f) (stands.names_within (Stray f) first.is_faulty) in
-    omega (arith, inside, (signature_numbers s good).count_of_functions)
 
 -- the contents of the proper locations are the lines of the state
 pub state_written : (s : Spec) (contents : List Value) → IsWellFormed s → length contents ≡ count_of (shape_of s) → contents_text s contents ≡ state_text (names_in s) (locations_in s) (state_of (shape_of s) contents)

@@ -3,33 +3,29 @@
 --                     contents
 --     AreSized        contents and summary fit the signature
 --     IsFired         its set is fired, and this is the text of the step
---     IsStopped       its set has this first fault, or it has none
+--     IsStopped       its set has a fault, or it has none, and the run ends so
 --     Finishes        what the last lines do to the bytes of a sink
-use Rattle.std.specs.Prelude.{◌≡◌, ℕ, ◌<◌, Bool, true, false, List, [], length, Option, Result, Ok, Err}
+use Rattle.std.specs.Prelude.{◌≡◌, ℕ, Bool, true, false, List, [], length, Option, Result, Ok, Err}
 use Rattle.std.specs.Io.KnownBytes.{Appends}
 use Rattle.asm_state.specs.declared.value.Value.{Value}
 use Rattle.asm_state.specs.Signature.{count_of, state_of}
-use Rattle.asm_state.specs.Updates.{UpdateSet, IsConsistent, IsFirstFault, fire}
+use Rattle.asm_state.specs.Updates.{UpdateSet, IsConsistent, fire}
 use Rattle.asm_syntax.specs.SourceTree.{Spec}
 use Rattle.asm_reader.specs.ScriptLines.{Script}
 use Rattle.asm_check.specs.Faults.{inits}
-use Rattle.asm_check.specs.Numbers.{functions_of}
 use Rattle.asm_check.specs.Shapes.{shape_of}
-use Rattle.asm_updates.specs.declared.fault.Fault.{Fault}
-use Rattle.asm_updates.specs.declared.fault.Fault.TheVariants.{Clash, Outside}
-use Rattle.asm_updates.specs.code.Faults.{fault_of}
 use Rattle.asm_meaning.specs.Declarations.{program_of, main_rule}
 use Rattle.asm_meaning.specs.Does.{Outcome, does}
 use Rattle.asm_meaning.specs.Program.{nothing_bound}
-use Rattle.asm_meaning.specs.Yields.{Path, Gives, Exhausted}
+use Rattle.asm_meaning.specs.Run.{AtExhausted, AtFault}
+use Rattle.asm_meaning.specs.Yields as yields
+use Rattle.asm_meaning.specs.Yields.{Gives, Exhausted}
 use Rattle.asm_run.specs.declared.end.End.{End}
-use Rattle.asm_run.specs.declared.end.End.TheVariants as end
 use Rattle.asm_run.specs.declared.error.RunError.{RunError}
 use Rattle.asm_run.specs.declared.error.RunError.TheVariants as error
-use Rattle.asm_run.specs.declared.step.StepStop.{StepStop}
-use Rattle.asm_run.specs.declared.step.StepStop.TheVariants as stop
+use Rattle.asm_run.specs.Headline.{IsReturned}
 use Rattle.asm_run.specs.Sink.{AppendsFront}
-use Rattle.asm_run.specs.Trace.{step_text, fault_text, exhausted_line}
+use Rattle.asm_run.specs.Trace.{step_text}
 use Rattle.asm_run.specs.Written.{names_in, locations_in}
 
 abbrev pub main_outcome : Spec → (turns : ℕ) → Script → (step : ℕ) → (contents : List Value) → Outcome
@@ -47,45 +43,14 @@ pub record IsFired (s : Spec) (turns : ℕ) (script : Script) (step : ℕ) (old 
   pub fired : state_of (shape_of s) new ≡ fire (state_of (shape_of s) old) set
   pub written : text ≡ step_text (names_in s) (locations_in s) step (record { set = set; instances = (main_outcome s turns script step old).instances })
 
--- the fault is at a location, or a function, of the specification
-abbrev pub IsFaultBelow : Spec → Fault → Type 0
-IsFaultBelow s (Clash location low high) = location < count_of (shape_of s)
-IsFaultBelow s (Outside f) = f < length (functions_of s)
+-- how what a step yields ends a run, unless it is fired
+abbrev pub EndsBy : (step : ℕ) → yields.Result → End → Type 0
+EndsBy step (Gives U) e = IsReturned (AtFault step U) e
+EndsBy step (Exhausted p) e = IsReturned (AtExhausted step p) e
 
-pub record IsAtFault (s : Spec) (turns : ℕ) (script : Script) (step : ℕ) (old : List Value) (fault : Fault) : Type 0 where
-  pub set : UpdateSet
-  pub gives : (main_outcome s turns script step old).result ≡ Gives set
-  pub is_first : IsFirstFault set (fault_of (shape_of s) fault)
-  pub below : IsFaultBelow s fault
-
--- the main rule is exhausted at this path, or its set has this first fault
-abbrev pub IsAtStop : Spec → (turns : ℕ) → Script → (step : ℕ) → (old : List Value) → Path → StepStop → Type 0
-IsAtStop s turns script step old p (stop.Fault fault) = IsAtFault s turns script step old fault
-IsAtStop s turns script step old p stop.Exhausted = (main_outcome s turns script step old).result ≡ Exhausted p
-
-abbrev pub IsStopped : Spec → (turns : ℕ) → Script → (step : ℕ) → (old new : List Value) → Path → StepStop → Type 0
-IsStopped s turns script step old new p at = IsAtStop s turns script step old p at × (new ≡ old)
-
-abbrev pub fault_line : Spec → (step : ℕ) → Fault → List ℕ
-fault_line s step fault = fault_text (names_in s) step (fault_of (shape_of s) fault)
-
-abbrev pub end_of_fault : Fault → End
-end_of_fault (Clash location low high) = end.Clash
-end_of_fault (Outside f) = end.Outside
-
--- ---- the line of a stop, and its result
-
-abbrev pub IsStopBelow : Spec → StepStop → Type 0
-IsStopBelow s (stop.Fault fault) = IsFaultBelow s fault
-IsStopBelow s stop.Exhausted = Unit {0}
-
-abbrev pub stop_line : Spec → (step : ℕ) → StepStop → Path → List ℕ
-stop_line s step (stop.Fault fault) p = fault_line s step fault
-stop_line s step stop.Exhausted p = exhausted_line step p
-
-abbrev pub end_of_stop : StepStop → End
-end_of_stop (stop.Fault fault) = end_of_fault fault
-end_of_stop stop.Exhausted = end.Exhausted
+-- the run ends so in this step
+abbrev pub IsStopped : Spec → (turns : ℕ) → Script → (step : ℕ) → (old new : List Value) → End → Type 0
+IsStopped s turns script step old new e = EndsBy step (main_outcome s turns script step old).result e × (new ≡ old)
 
 -- the last lines: all of them, none if memory ran out, or a front if the sink failed
 abbrev pub Finishes : Option (List ℕ) → Option (List ℕ) → (failed : Bool) → List ℕ → End → Result End RunError → Type 0

@@ -1,6 +1,6 @@
 //! Worked rows at many numbers of workers, cuts and rounds.
 use asm_limits::run_limits::{DEFAULTS, Limits};
-use asm_run::end::End;
+use asm_run::end::EndKind;
 use asm_run::error::RunError;
 use asm_run::run::run;
 use asm_run::through::Through;
@@ -12,7 +12,7 @@ pub struct Row {
     pub text: &'static [u8],
     pub script: &'static [u8],
     turns: u32,
-    end: End,
+    end: EndKind,
     pub trace: &'static [u8],
 }
 
@@ -23,7 +23,7 @@ rule M = forall i in Idx with i != 2 do par\n  choose k in Color do c(i) := k en
 choose k in Idx with k > i do d(i) := k ifnone d(i) := i endchoose\nendpar endforall\n",
     script: b"1 0.0 4\n1 3.0 2\n1 1.1 1\n1 2.0 1\n",
     turns: 1000,
-    end: End::Limit,
+    end: EndKind::Limit,
     trace: b"step 1 instances 4\nc(0) := green\nc(1) := red\nc(3) := blue\nc(4) := red\n\
 d(0) := 1\nd(1) := 3\nd(3) := 4\nd(4) := 4\nend limit\nstate\n\
 c(0) = green\nc(1) = red\nc(3) = blue\nc(4) = red\nd(0) = 1\nd(1) = 3\nd(3) = 4\nd(4) = 4\n",
@@ -34,7 +34,7 @@ static NESTED_FORALL: Row = Row {
 rule M = forall i in Idx do forall j in Idx with j < i do f(j) := 0 endforall endforall\n",
     script: b"",
     turns: 1000,
-    end: End::Limit,
+    end: EndKind::Limit,
     trace: b"step 1 instances 6\nf(0) := 0\nf(1) := 0\nend limit\nstate\nf(0) = 0\nf(1) = 0\n",
 };
 
@@ -44,7 +44,7 @@ rule M = forall i in Idx do seq skip \
 iterate if i = 1 then f(i) := f(i) + 1 endif enditerate endseq endforall\n",
     script: b"",
     turns: 2,
-    end: End::Exhausted,
+    end: EndKind::Exhausted,
     trace: b"end exhausted step 1 place 1.1\nstate\nf(0) = 0\nf(1) = 0\n",
 };
 
@@ -68,7 +68,7 @@ fn is_shown<R: Threads + Sync + AllocGlobal>(
     };
     let mut out = Through::new(Vec::new(rt.alloc()));
     let end = run(rt, rt.alloc(), row.text, row.script, &limits, &mut out)?;
-    Ok(end == row.end && out.into_inner().as_slice() == row.trace)
+    Ok(end.kind() == row.end && out.into_inner().as_slice() == row.trace)
 }
 
 /// The first cutting with which a run of the row isn't as it says.

@@ -1,7 +1,7 @@
 //! Two workers make one step of a run.
 use asm_limits::run_limits::{DEFAULTS, Limits};
 use asm_pool::Gate;
-use asm_run::end::End;
+use asm_run::end::EndKind;
 use asm_run::error::RunError;
 use asm_run::run::run_gated;
 use asm_run::through::Through;
@@ -113,31 +113,31 @@ fn is_shared<R: Threads + Sync + AllocGlobal>(
     text: &[u8],
     limits: &Limits,
     tasks: u64,
-    end: End,
+    end: EndKind,
     trace: &[u8],
 ) -> Result<bool, RunError> {
     let gate = Second::new();
     let mut out = Through::new(Vec::new(rt.alloc()));
     let ended = run_gated(rt, rt.alloc(), &gate, text, b"", limits, &mut out)?;
-    Ok(ended == end && out.into_inner().as_slice() == trace && gate.has_happened(tasks))
+    Ok(ended.kind() == end && out.into_inner().as_slice() == trace && gate.has_happened(tasks))
 }
 
 #[test]
 fn run_meets(rt: HostRuntime) -> Result<(), Fail> {
-    assert!(rt; is_shared(&rt, SWAP, &ONE_ROUND, 3, End::Limit, SWAPPED)?);
+    assert!(rt; is_shared(&rt, SWAP, &ONE_ROUND, 3, EndKind::Limit, SWAPPED)?);
     Ok(())
 }
 
 #[test]
 fn updates_of_two_workers_clash(rt: HostRuntime) -> Result<(), Fail> {
-    assert!(rt; is_shared(&rt, CLASH, &ONE_ROUND, 3, End::Clash, CLASHED)?);
+    assert!(rt; is_shared(&rt, CLASH, &ONE_ROUND, 3, EndKind::Clash, CLASHED)?);
     Ok(())
 }
 
 /// By the default rounds little work isn't shared, but turns are.
 #[test]
 fn turns_meet_by_the_default_rounds(rt: HostRuntime) -> Result<(), Fail> {
-    assert!(rt; is_shared(&rt, TURNS, &DEFAULT, 3, End::Limit, TURNED)?);
+    assert!(rt; is_shared(&rt, TURNS, &DEFAULT, 3, EndKind::Limit, TURNED)?);
     Ok(())
 }
 
@@ -149,6 +149,6 @@ fn elements_meet_by_the_default_rounds(rt: HostRuntime) -> Result<(), Fail> {
         cut: 16,
         ..DEFAULT
     };
-    assert!(rt; is_shared(&rt, THOUSAND, &four, 64, End::Limit, DONE)?);
+    assert!(rt; is_shared(&rt, THOUSAND, &four, 64, EndKind::Limit, DONE)?);
     Ok(())
 }

@@ -1,7 +1,7 @@
 //! Beginnings of texts.
 use super::LIMITS;
 use crate::regions::rows::CHOICES_IN_FORALL;
-use asm_run::end::End;
+use asm_run::end::EndKind;
 use asm_run::error::RunError;
 use asm_run::run::run;
 use asm_run::through::Through;
@@ -13,7 +13,7 @@ use std::thread::Threads;
 enum Told {
     Read(u8, Option<usize>),
     Check(u8, usize),
-    Ran(End),
+    Ran(EndKind),
 }
 
 const SKIP: &[u8] = b"CoreASM T\ninit M\nrule M = skip";
@@ -30,7 +30,7 @@ static BEGINNINGS_OF_SKIP: [(usize, Told); 11] = [
     (21, Told::Read(6, None)),
     (25, Told::Read(6, None)),
     (29, Told::Check(9, 26)),
-    (30, Told::Ran(End::Limit)),
+    (30, Told::Ran(EndKind::Limit)),
 ];
 
 /// A text with terms of each kind.
@@ -48,7 +48,7 @@ fn answer_to<R: Threads + Sync + AllocGlobal>(
 ) -> Result<(Told, usize), RunError> {
     let mut out = Through::new(Vec::new(rt.alloc()));
     let told = match run(rt, rt.alloc(), text, script, &LIMITS, &mut out) {
-        Ok(end) => Told::Ran(end),
+        Ok(end) => Told::Ran(end.kind()),
         Err(RunError::Read(reason)) => Told::Read(reason.number(), reason.at()),
         Err(RunError::Check(fault)) => Told::Check(fault.number(), fault.at),
         Err(other) => return Err(other),
@@ -63,7 +63,7 @@ fn is_of_beginning(told: Told, written: usize, length: usize) -> bool {
         Told::Read(2 | 3 | 5, Some(at)) => at < length && written == 0,
         Told::Read(6, None) => written == 0,
         Told::Check(8..=17, at) => at <= length && written == 0,
-        Told::Ran(End::Limit) => written > 0,
+        Told::Ran(EndKind::Limit) => written > 0,
         _ => false,
     }
 }
@@ -89,7 +89,7 @@ fn beginnings_of_skip(rt: HostRuntime) -> Result<(), Fail> {
         let beginning = SKIP.get(..*length).unwrap_or(SKIP);
         let (told, written) = answer_to(&rt, beginning, b"")?;
         assert_eq!(rt; told, *expected, "{length}");
-        assert_eq!(rt; written > 0, told == Told::Ran(End::Limit), "{length}");
+        assert_eq!(rt; written > 0, told == Told::Ran(EndKind::Limit), "{length}");
     }
     Ok(())
 }

@@ -1,4 +1,4 @@
-use Rattle.std.proofs.Common.{◌≡◌, ◌+◌, arith, inl, refl, ◌∙◌, rules}
+use Rattle.std.proofs.Common.{◌≡◌, ◌+◌, arith, inl, refl, rules}
 use Rattle.std.proofs.lemmas.Result.{err_from_is_err_and}
 use Rattle.asm_syntax.specs.code.Views.{spec_of}
 use Rattle.asm_check.specs.Shapes.{shape_of}
@@ -23,10 +23,10 @@ returns-in_err-state g c =
     rw (p.1, p.2)
     (none_begun (spec_of c.args.resolved.now.checked.now.spec) c.args.resolved.now.turns (g.P.Picks.script c.args.script.now) c.args.steps (g.S.Sink.bytes c.args.out.now) (g.S.Sink.has_failed c.args.out.now) c.requires.open)
 
-pub returns-in_err-stop : goal.returns-in_err-stop
-returns-in_err-stop g c =
+pub returns-in_err-end : goal.returns-in_err-end
+returns-in_err-end g c =
     let now = c.loop-done in
-    let p = err_from_is_err_and c.from_residual-in_err-stop.result c.from_residual-in_err-stop.ensures.1 in
+    let p = err_from_is_err_and c.from_residual-in_err-end.result c.from_residual-in_err-end.ensures.1 in
     rw (p.1, p.2)
     (out_of_memory (spec_of c.args.resolved.now.checked.now.spec) c.args.resolved.now.checked.now.well_formed c.args.resolved.now.turns (g.P.Picks.script c.args.script.now) c.args.steps now.done now.state now.forming.set.count
     (g.S.Sink.bytes c.args.out.now) (g.S.Sink.bytes now.out) (g.S.Sink.has_failed now.out) now.invariant.0)
@@ -36,8 +36,8 @@ returns-in-Some g c =
     let now = c.loop-done in
     at_stop (spec_of c.args.resolved.now.checked.now.spec) c.args.resolved.now.checked.now.well_formed c.args.resolved.now.turns (g.P.Picks.script c.args.script.now) c.args.steps now.done now.state now.forming.set.count
     (g.S.Sink.bytes c.args.out.now) (g.S.Sink.bytes now.out) (g.S.Sink.has_failed now.out) now.invariant.0
-    c.loop-done-test.true (c.from.result + 1) (omega (arith, c.from.ensures)) (g.S.Sink.bytes c.finish_at_stop.new.out) (g.S.Sink.has_failed c.finish_at_stop.new.out)
-    c.finish_at_stop.result c.make_step.new.state c.make_step.new.forming.path.items c.as_slice-path.result.now c.in-Some.stop (search rules) c.as_slice-path.ensures.value c.finish_at_stop.ensures
+    c.loop-done-test.true (c.from.result + 1) (omega (arith, c.from.ensures)) (g.S.Sink.bytes c.finish.new.out) (g.S.Sink.has_failed c.finish.new.out)
+    c.finish.result c.make_step.new.state c.in-Some.end (search rules) c.finish.ensures
 
 pub returns-in_err-write_all : goal.returns-in_err-write_all
 returns-in_err-write_all g c =
@@ -56,7 +56,7 @@ loop-done-preserved g c =
           (g.S.Sink.bytes c.args.out.now) (g.S.Sink.bytes now.out) (g.S.Sink.has_failed now.out) now.invariant.0
           c.loop-done-test.true (c.from.result + 1) (omega (arith, c.from.ensures)) c.make_step.new.state c.make_step.new.text.items (search rules)
           (g.S.Sink.bytes c.write_all.new.out) (g.S.Sink.has_failed c.write_all.new.out) c.make_step.new.forming.set.count (search rules) (search rules) (search rules),
-      c.in_ok-stop.ensures.known,
+      c.in_ok-end.ensures.known,
     )
 
 pub returns : goal.returns
@@ -64,10 +64,10 @@ returns g c =
     let now = c.loop-done in
     at_limit (spec_of c.args.resolved.now.checked.now.spec) c.args.resolved.now.checked.now.well_formed c.args.resolved.now.turns (g.P.Picks.script c.args.script.now) c.args.steps now.done now.state now.forming.set.count
     (g.S.Sink.bytes c.args.out.now) (g.S.Sink.bytes now.out) (g.S.Sink.has_failed now.out) now.invariant.0
-    (g.S.Sink.bytes c.finish_at_limit.new.out) (g.S.Sink.has_failed c.finish_at_limit.new.out) c.finish_at_limit.result c.loop-done-test.false c.finish_at_limit.ensures
+    (g.S.Sink.bytes c.finish-2.new.out) (g.S.Sink.has_failed c.finish-2.new.out) c.finish-2.result c.loop-done-test.false c.finish-2.ensures
 
-pub finish_at_stop-requires-clause-whole : goal.finish_at_stop-requires-clause-whole
-finish_at_stop-requires-clause-whole g c = c.in_ok-stop.ensures.sized.contents_fit
+pub finish-requires-clause-whole : goal.finish-requires-clause-whole
+finish-requires-clause-whole g c = c.in_ok-end.ensures.sized.contents_fit
 
-pub finish_at_limit-requires-clause-whole : goal.finish_at_limit-requires-clause-whole
-finish_at_limit-requires-clause-whole g c = c.loop-done.invariant.0.sized.contents_fit
+pub finish-requires-2-clause-whole : goal.finish-requires-2-clause-whole
+finish-requires-2-clause-whole g c = c.loop-done.invariant.0.sized.contents_fit

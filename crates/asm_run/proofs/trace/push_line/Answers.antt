@@ -4,8 +4,8 @@ use Rattle.asm_syntax.specs.code.Views.{spec_of}
 use Rattle.asm_run.proofs.LocationFunctions.{location_function_below}
 use Rattle.asm_run.proofs.trace.push_line.Goals as goal
 
-pub push_location-requires : goal.push_location-requires
-push_location-requires c =
+pub push_known_location-requires : goal.push_known_location-requires
+push_known_location-requires c =
     let checked = c.args.checked.now in
     let shaped = c.signature-signature.ensures in
     let below = subst (λ m. c.args.n < m) (c.requires.whole ∙ ap count_of (sym shaped)) c.requires.in_range in

@@ -1,5 +1,5 @@
 use Rattle.asm_run.proofs.TextLemmas.ArgumentTexts.{numbers_grow}
-use Rattle.asm_run.proofs.trace.push_numbers.Goals as goal
+use Rattle.asm_run.proofs.locations.push_numbers.Goals as goal
 
 pub loop-i-preserved : goal.loop-i-preserved
 loop-i-preserved c =
