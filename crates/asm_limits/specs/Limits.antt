@@ -6,8 +6,12 @@
 --     limits_given limits      each option, with the limit that it gives
 --     limit_options            the options; options_with_defaults, those but for the steps
 --     are_in_range limits      each limit is one of the numbers that its option takes
-use Rattle.std.specs.Prelude.{ℕ, Bool, ◌&&◌, nat_le, List, [], ◌∷◌, Option, Some, None, codes}
+--     default_value option     the number that stands for it if it is left out
+--     default_values limits    the limits, each in the place of its option; none for the steps,
+--                              which can't be left out
+use Rattle.std.specs.Prelude.{ℕ, Bool, ◌&&◌, nat_le, List, [], ◌∷◌, Option, Some, None, map, option_map, codes, ℤ, pos}
 use Rattle.std.specs.List.{list_all}
+use Rattle.std.specs.Str.Parse.{signed_digits_value}
 use Rattle.asm_limits.specs.declared.run_limits.Bounds.{Bounds}
 use Rattle.asm_limits.specs.declared.run_limits.Limits.{Limits}
 
@@ -57,3 +61,9 @@ limits_given limits =
 
 abbrev pub are_in_range : Limits → Bool
 are_in_range limits = are_within (limits_given limits)
+
+abbrev pub default_value : NumberOption → Option ℤ
+default_value option = option_map (signed_digits_value 10) option.default
+
+abbrev pub default_values : Limits → List (Option ℤ)
+default_values limits = None ∷ map (λ n. Some (pos n)) (limits.turns ∷ limits.workers ∷ limits.cut ∷ limits.rounds ∷ [])

@@ -1,7 +1,7 @@
 //! The limits of a run, and the options that give them.
-ghost use Rattle.std.specs.Prelude.{◌≡◌, [], ◌∷◌, map};
+ghost use Rattle.std.specs.Prelude.{◌≡◌, true, [], ◌∷◌, map};
 ghost use Rattle.asm_limits.specs.Limits as spec;
-ghost use Rattle.asm_limits.specs.Limits.{options_with_defaults};
+ghost use Rattle.asm_limits.specs.Limits.{limit_options, options_with_defaults};
 ghost use Rattle.asm_limits.specs.code.NumberOptions.{as_option};
 
 /// The numbers that an option takes.
@@ -115,6 +115,13 @@ pub const DEFAULTS: Limits = Limits {
     cut: 64,
     rounds: 4,
 };
+
+/// Each of `DEFAULTS` is in its range, and is what stands for its option if that is left out, which
+/// only the steps can't be.
+pub fn defaults_law()
+    ensures range { spec.are_in_range DEFAULTS ≡ true }
+    ensures texts { map spec.default_value limit_options ≡ spec.default_values DEFAULTS }
+{}
 
 impl Limits {
     /// Whether each number is in its range.
