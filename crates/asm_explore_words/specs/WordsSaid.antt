@@ -8,7 +8,9 @@
 --     Explains, ExplainsRandom, ExplainsRun words fault
 --                                   the words after a command are refused, as the fault says, or
 --                                   memory ran out
---     ExplainsBehind words fault    the same with the command before them
+--     IsCommand word                the word names a command
+--     ExplainsWithout words fault   the same of words that don't begin with a command
+--     ExplainsBehind words fault    the same with the command before them, or without one
 use Rattle.std.specs.Prelude.{◌≡◌, ◌⊎◌, ℕ, Bool, true, false, ◌&&◌, List, [], ◌∷◌, Option, Some, None, option_map, codes, is_some, ⊤}
 use Rattle.std.specs.Option.{option_map_or}
 use Rattle.std.specs.Prelude.{find}
@@ -25,7 +27,7 @@ use Rattle.clap.specs.declared.parser.matches.ArgMatches.{ArgMatches}
 use Rattle.clap.specs.declared.parser.matches.Found.{Found}
 use Rattle.asm_limits.specs.Limits.{NumberOption, are_within, turns_option, workers_option}
 use Rattle.asm_arguments.specs.Numbers.{AreNumbers, HaveNumbers}
-use Rattle.asm_explore_words.specs.CommandLine.{command, most_unsigned, outcomes_option, refusals, random_command, random_refusals, run_command, run_refusals, runs_option, states_option, steps_or_else}
+use Rattle.asm_explore_words.specs.CommandLine.{command, command_refusals, most_unsigned, outcomes_option, refusals, random_command, random_refusals, run_command, run_refusals, runs_option, states_option, steps_or_else}
 use Rattle.asm_explore_words.specs.declared.fault.Fault.{Fault}
 use Rattle.asm_explore_words.specs.declared.fault.Fault.TheVariants.{Memory, Words}
 use Rattle.asm_explore_words.specs.declared.settings.RandomSettings.{RandomSettings}
@@ -210,8 +212,17 @@ AreSaidBehind (command ∷ words) (Random settings) = (command ≡ codes "random
 AreSaidBehind (command ∷ words) (Choices settings) = (command ≡ codes "choices") × AreRunSaid words settings
 AreSaidBehind (command ∷ words) (Clash settings) = (command ≡ codes "clash") × AreRunSaid words settings
 
+abbrev pub IsCommand : Text → Type 0
+IsCommand command = (command ≡ codes "all") ⊎ ((command ≡ codes "random") ⊎ IsOfRun command)
+
+-- words that don't begin with a command
+abbrev pub ExplainsWithout : List Text → Fault → Type 0
+ExplainsWithout words Memory = ⊤
+ExplainsWithout words (Words error) = IsAmong (kind_of error) (command_refusals words)
+ExplainsWithout words _ = ⊥
+
 abbrev pub ExplainsBehind : List Text → Fault → Type 0
-ExplainsBehind [] fault = ⊤
+ExplainsBehind [] fault = ExplainsWithout [] fault
 ExplainsBehind (command ∷ words) fault =
     (command ≡ codes "all" → Explains words fault) × (command ≡ codes "random" → ExplainsRandom words fault)
-    × (IsOfRun command → ExplainsRun words fault)
+    × (IsOfRun command → ExplainsRun words fault) × (¬ (IsCommand command) → ExplainsWithout (command ∷ words) fault)

@@ -3,12 +3,12 @@ ghost use Rattle.std.specs.Prelude.{◌≡◌, ◌∷◌, [], Some, map, option_
 ghost use Rattle.clap.specs.Kinds.{HasKind};
 ghost use Rattle.clap.specs.Values.{kind_of};
 ghost use Rattle.clap.specs.Walk.{texts};
-ghost use Rattle.clap.specs.Words.{app_of, first_value, found_of, rows_of};
+ghost use Rattle.clap.specs.Words.{App, app_of, first_value, found_of, rows_of, with_subcommand};
 ghost use Rattle.clap.specs.declared.error.kind.ErrorKind.TheVariants.{ArgumentConflict, OutOfMemory};
 ghost use Rattle.asm_arguments.specs.Numbers.{HaveNumbers};
 ghost use Rattle.asm_explore_words.specs.CommandLine as line;
-ghost use Rattle.asm_explore_words.specs.CommandLine.{refusals, run_refusals};
-ghost use Rattle.asm_explore_words.specs.WordsSaid.{AreParsed, AreRead, AreRunParsed, AreRunRead, AreRunSaid, AreSaid, AreSaidBehind, Explains, ExplainsBehind, ExplainsRandom, ExplainsRun, IsFaultOf, are_in_range, are_run_in_range, is_task_in_range, number_options, run_number_options, run_rows};
+ghost use Rattle.asm_explore_words.specs.CommandLine.{command_refusals, named, refusals, run_refusals};
+ghost use Rattle.asm_explore_words.specs.WordsSaid.{AreParsed, AreRead, AreRunParsed, AreRunRead, AreRunSaid, AreSaid, AreSaidBehind, Explains, ExplainsBehind, ExplainsRandom, ExplainsRun, ExplainsWithout, IsFaultOf, are_in_range, are_run_in_range, is_task_in_range, number_options, run_number_options, run_rows};
 
 use crate::arguments::{is_set, texts_of};
 use crate::commands::{Argument, described, with_arguments};
@@ -263,7 +263,9 @@ fn run_command<'w>(
 }
 
 /// The fault of words that don't begin with a command.
-fn without_command<'w, S: AsStr>(alloc: Global, words: &'w [S]) -> Fault<'w> {
+fn without_command<'w, S: AsStr>(alloc: Global, words: &'w [S]) -> Fault<'w>
+    ensures { ExplainsWithout (map S.text words.entry.now) result }
+{
     match commands(alloc) {
         Ok(mut commands) => {
             let error = refused(&mut commands, words);
@@ -275,7 +277,10 @@ fn without_command<'w, S: AsStr>(alloc: Global, words: &'w [S]) -> Fault<'w> {
 }
 
 /// What is to be said of these words, which don't begin with one of the commands.
-fn refused<'w, S: AsStr>(commands: &mut Command<'w>, words: &'w [S]) -> Error {
+fn refused<'w, S: AsStr>(commands: &mut Command<'w>, words: &'w [S]) -> Error
+    requires { app_of commands.old ≡ line.commands }
+    ensures { HasKind (command_refusals (map S.text words.entry.now)) result }
+{
     match commands.try_get_matches_from_mut(words) {
         Ok(matches) => {
             drop(matches);
@@ -289,7 +294,9 @@ fn refused<'w, S: AsStr>(commands: &mut Command<'w>, words: &'w [S]) -> Error {
 }
 
 /// The commands.
-fn commands<'w>(alloc: Global) -> Result<Command<'w>, AllocError> {
+fn commands<'w>(alloc: Global) -> Result<Command<'w>, AllocError>
+    ensures { IfOk result (λ c. app_of c ≡ line.commands) }
+{
     let commands = Command::new(alloc, help::NAME)
         .bin_name(help::NAME)?
         .version(help::VERSION)
@@ -310,6 +317,8 @@ fn with<'w>(
     commands: Command<'w>,
     name: &'w str,
     command: Result<Command<'w>, AllocError>,
-) -> Result<Command<'w>, AllocError> {
+) -> Result<Command<'w>, AllocError>
+    ensures { (app : App) → app.top.is_plain ≡ true → IfOk command.entry (λ c. app_of c ≡ app) → IfOk result (λ c. app_of c ≡ with_subcommand (app_of commands.entry) (named name.entry.now app.top)) }
+{
     commands.subcommand(command?.name(name))
 }
