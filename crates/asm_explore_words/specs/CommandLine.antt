@@ -8,10 +8,11 @@
 --                                       and condition and for the seed, and two flags
 --     run_command, run_refusals words   after `choices` and `clash`: the text's file, and an option
 --                                       for each limit and for the script's file
---     commands, command_refusals words  before all of them: one has to be named. The kinds of what is
---                                       wrong with words that name none
+--     commands, command_refusals words  all of them, one of which has to be named first. The kinds
+--                                       of what is wrong with words that name none
 use Rattle.std.specs.Prelude.{ℕ, false, true, List, [], ◌∷◌, Some, codes}
 use Rattle.clap.specs.Faults.{fault_of}
+use Rattle.clap.specs.Kinds as kinds
 use Rattle.clap.specs.Kinds.{Kinds}
 use Rattle.clap.specs.Simple.{App, Shape, new_rule, new_shape}
 use Rattle.clap.specs.Walk.{Rule, Text}
@@ -117,7 +118,7 @@ run_command = record {
 abbrev pub run_refusals : List Text → Kinds
 run_refusals words = fault_of run_command words
 
--- ---- all commands, one of which has to be named
+-- ---- all of them, one of which has to be named first
 
 abbrev pub named : Text → App → Shape
 named name app = record app.top { name = name }
@@ -138,4 +139,4 @@ commands = record {
 }
 
 abbrev pub command_refusals : List Text → Kinds
-command_refusals words = MissingSubcommand ∷ fault_of commands words
+command_refusals words = kinds.or_else (fault_of commands words) (MissingSubcommand ∷ [])

@@ -7,8 +7,8 @@ ghost use Rattle.clap.specs.Words.{App, app_of, first_value, found_of, rows_of, 
 ghost use Rattle.clap.specs.declared.error.kind.ErrorKind.TheVariants.{ArgumentConflict, OutOfMemory};
 ghost use Rattle.asm_arguments.specs.Numbers.{HaveNumbers};
 ghost use Rattle.asm_explore_words.specs.CommandLine as line;
-ghost use Rattle.asm_explore_words.specs.CommandLine.{command_refusals, named, refusals, run_refusals};
-ghost use Rattle.asm_explore_words.specs.WordsSaid.{AreParsed, AreRead, AreRunParsed, AreRunRead, AreRunSaid, AreSaid, AreSaidBehind, Explains, ExplainsBehind, ExplainsRandom, ExplainsRun, ExplainsWithout, IsFaultOf, are_in_range, are_run_in_range, is_task_in_range, number_options, run_number_options, run_rows};
+ghost use Rattle.asm_explore_words.specs.CommandLine.{command_refusals, named, random_refusals, refusals, run_refusals};
+ghost use Rattle.asm_explore_words.specs.WordsSaid.{AreParsed, AreRead, AreRunParsed, AreRunRead, AreRunSaid, AreSaid, AreSaidBehind, IsFaultOf, IsRefusal, are_in_range, are_run_in_range, is_task_in_range, number_options, one_run_refusals, run_number_options, run_rows, task_refusals};
 
 use crate::arguments::{is_set, texts_of};
 use crate::commands::{Argument, described, with_arguments};
@@ -85,7 +85,8 @@ impl<'w> From<Error> for Fault<'w> {
 pub fn settings<'w, S: AsStr>(alloc: Global, words: &'w [S]) -> Result<Task<'w>, Fault<'w>>
     ensures in_range { IfOk result (λ task. IsTrue (is_task_in_range task)) }
     ensures said { IfOk result (AreSaidBehind (map S.text words.entry.now)) }
-    ensures refused { IfErr result (ExplainsBehind (map S.text words.entry.now)) }
+    ensures taken { IfOk result (λ _. task_refusals (map S.text words.entry.now) ≡ []) }
+    ensures refused { IfErr result (IsRefusal (task_refusals (map S.text words.entry.now))) }
 {
     match words.split_first() {
         Some((command, words)) if command.as_str() == ALL => all_task(alloc, words),
@@ -107,7 +108,7 @@ pub fn settings<'w, S: AsStr>(alloc: Global, words: &'w [S]) -> Result<Task<'w>,
 fn all_task<'w, S: AsStr>(alloc: Global, words: &'w [S]) -> Result<Task<'w>, Fault<'w>>
     ensures in_range { IfOk result (λ task. IsTrue (is_task_in_range task)) }
     ensures said { IfOk result (AreSaidBehind (codes "all" ∷ map S.text words.entry.now)) }
-    ensures refused { IfErr result (Explains (map S.text words.entry.now)) }
+    ensures refused { IfErr result (IsRefusal (refusals (map S.text words.entry.now))) }
 {
     let settings = all_settings(alloc, words)?;
     Ok(Task::All(settings))
@@ -117,7 +118,7 @@ fn all_task<'w, S: AsStr>(alloc: Global, words: &'w [S]) -> Result<Task<'w>, Fau
 fn random_task<'w, S: AsStr>(alloc: Global, words: &'w [S]) -> Result<Task<'w>, Fault<'w>>
     ensures in_range { IfOk result (λ task. IsTrue (is_task_in_range task)) }
     ensures said { IfOk result (AreSaidBehind (codes "random" ∷ map S.text words.entry.now)) }
-    ensures refused { IfErr result (ExplainsRandom (map S.text words.entry.now)) }
+    ensures refused { IfErr result (IsRefusal (random_refusals (map S.text words.entry.now))) }
 {
     let settings = random_settings(alloc, words)?;
     Ok(Task::Random(settings))
@@ -189,7 +190,7 @@ fn run_settings<'w, S: AsStr>(
 ) -> Result<RunSettings<'w>, Fault<'w>>
     ensures in_range { IfOk result (λ s. IsTrue (are_run_in_range s)) }
     ensures said { IfOk result (AreRunSaid (map S.text words.entry.now)) }
-    ensures refused { IfErr result (ExplainsRun (map S.text words.entry.now)) }
+    ensures refused { IfErr result (IsRefusal (one_run_refusals (map S.text words.entry.now))) }
 {
     let settings = run_given(alloc, called, about, words)?;
     if is_standard_input(Some(settings.spec)) && is_standard_input(settings.script) {
@@ -264,7 +265,7 @@ fn run_command<'w>(
 
 /// The fault of words that don't begin with a command.
 fn without_command<'w, S: AsStr>(alloc: Global, words: &'w [S]) -> Fault<'w>
-    ensures { ExplainsWithout (map S.text words.entry.now) result }
+    ensures { IsRefusal (command_refusals (map S.text words.entry.now)) result }
 {
     match commands(alloc) {
         Ok(mut commands) => {
@@ -318,7 +319,7 @@ fn with<'w>(
     name: &'w str,
     command: Result<Command<'w>, AllocError>,
 ) -> Result<Command<'w>, AllocError>
-    ensures { (app : App) → app.top.is_plain ≡ true → IfOk command.entry (λ c. app_of c ≡ app) → IfOk result (λ c. app_of c ≡ with_subcommand (app_of commands.entry) (named name.entry.now app.top)) }
+    ensures { (app : App) → app.top.is_plain ≡ true → IfOk command.entry (λ c. app_of c ≡ app) → IfOk result (λ c. app_of c ≡ with_subcommand (app_of commands.entry) (named name.entry.now app)) }
 {
     commands.subcommand(command?.name(name))
 }

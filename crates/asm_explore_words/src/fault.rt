@@ -69,9 +69,6 @@ pub enum Fault<'w> {
     Graph(&'w str),
     /// The run under the script that was found ends otherwise than it was found to.
     Unconfirmed,
-    /// The choices of the run have no script that isn't too long, and has no number of more than
-    /// nine digits.
-    Unwritten,
 }
 
 impl Fault<'_> {
@@ -81,8 +78,8 @@ impl Fault<'_> {
     {
         match self {
             Fault::Text(_) => 2,
-            Fault::Memory | Fault::File(_) | Fault::Write | Fault::Graph(_) => 3,
-            Fault::Unconfirmed | Fault::Unwritten => 3,
+            Fault::Memory | Fault::File(_) | Fault::Write => 3,
+            Fault::Graph(_) | Fault::Unconfirmed => 3,
             Fault::Words(_) | Fault::NotText => 4,
         }
     }
