@@ -3,8 +3,8 @@
 
 use asm_explore_tool::files::SystemFiles;
 use asm_explore_tool::status::{fault_of_words, refusal, status};
-use asm_tool::input::words;
-use asm_tool::output::Through;
+use asm_files::input::words;
+use asm_files::output::Through;
 use std::io::IsTerminal;
 use std::process::ExitCode;
 

@@ -2,15 +2,15 @@
 ghost use Rattle.std.specs.Prelude.{◌≡◌, ◌++◌, List, ℕ, option_map, IfOk};
 ghost use Rattle.clap.specs.Walk.{texts};
 ghost use Rattle.asm_explore_texts.specs.Conditions.{text_of, texts_of};
-ghost use Rattle.asm_tool.specs.Statuses.{IsFront};
+ghost use Rattle.asm_files.specs.Input.{IsFront};
 ghost use Rattle.asm_explore_tool.specs.GivenTexts.{AreAlwaysGiven, AreFronts, AreGiven, IsText, max_bytes_read};
 
 use asm_explore_texts::conditions::{Condition, Conditions};
 use asm_explore_words::fault::{Fault, Source};
 use asm_explore_words::settings::Settings;
-use asm_tool::fault::Fault as ToolFault;
-use asm_tool::folder::Folder;
-use asm_tool::input;
+use asm_files::fault::ReadFault;
+use asm_files::folder::Folder;
+use asm_files::input;
 use std::alloc::{AllocError, Global};
 use std::io::Read;
 
@@ -19,10 +19,10 @@ use std::io::Read;
 pub(crate) const MAX_BYTES_READ: u64 = 1_048_577;
 
 /// The fault of a text that can't be had.
-pub(crate) fn of_file<'w>(fault: &ToolFault, source: Source<'w>) -> Fault<'w> {
+pub(crate) fn of_file<'w>(fault: &ReadFault, source: Source<'w>) -> Fault<'w> {
     match fault {
-        ToolFault::Memory => Fault::Memory,
-        _ => Fault::File(source),
+        ReadFault::Memory => Fault::Memory,
+        ReadFault::File => Fault::File(source),
     }
 }
 

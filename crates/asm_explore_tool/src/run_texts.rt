@@ -6,8 +6,8 @@ ghost use Rattle.asm_explore_words.specs.WordsSaid.{reads_input_twice};
 use crate::given_texts::{MAX_BYTES_READ, of_file, text as text_of};
 use asm_explore_words::fault::{Fault, Source};
 use asm_explore_words::settings::RunSettings;
-use asm_tool::folder::Folder;
-use asm_tool::input;
+use asm_files::folder::Folder;
+use asm_files::input;
 use std::alloc::Global;
 use std::io::Read;
 

@@ -19,10 +19,10 @@ use asm_explore_run::clash_report::clash_report;
 use asm_explore_words::command_line::settings;
 use asm_explore_words::fault::{Fault, Source};
 use asm_explore_words::settings::{RandomSettings, RunSettings, Settings, Task};
+use asm_files::fault::NoWords;
+use asm_files::folder::Folder;
 use asm_random::RandomProgress;
 use asm_run::sink::Sink;
-use asm_tool::fault::Fault as ToolFault;
-use asm_tool::folder::Folder;
 use clap::Error;
 use clap::error::ErrorKind;
 use std::alloc::Global;
@@ -55,10 +55,10 @@ pub fn status<
 }
 
 /// The fault of words that can't be had.
-pub fn fault_of_words(fault: &ToolFault) -> Fault<'static> {
+pub fn fault_of_words(fault: &NoWords) -> Fault<'static> {
     match fault {
-        ToolFault::Memory => Fault::Memory,
-        _ => Fault::NotText,
+        NoWords::Memory => Fault::Memory,
+        NoWords::NotText => Fault::NotText,
     }
 }
 
