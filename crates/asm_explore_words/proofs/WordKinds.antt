@@ -6,21 +6,15 @@ use Rattle.clap.specs.Kinds.{HasKind, IsAmong, Kinds, or_else}
 use Rattle.clap.specs.Values.{kind_of}
 use Rattle.clap.specs.declared.error.Error.{Error}
 use Rattle.asm_explore_words.specs.WordsSaid.{IsFaultOf, IsRefusal}
-use Rattle.asm_explore_words.specs.declared.fault.Fault.{Fault}
-use Rattle.asm_explore_words.specs.declared.fault.Fault.TheVariants as fault
+use Rattle.asm_explore_words.specs.declared.settings.WordFault.{WordFault}
+use Rattle.asm_explore_words.specs.declared.settings.WordFault.TheVariants.{Memory, Words}
 
 pub first_kinds : (ks more : Kinds) (e : Error) → HasKind ks e → HasKind (or_else ks more) e
 first_kinds [] more e (inl memory) = inl memory
 first_kinds [] more e (inr none) = absurd none
 first_kinds (k ∷ ks) more e h = h
 
-pub is_refusal : (ks : Kinds) (e : Error) (f : Fault) → HasKind ks e → IsFaultOf e f → IsRefusal ks f
-is_refusal ks e fault.Memory h of = tt
-is_refusal ks e (fault.Words error) (inl memory) of = absurd (of.1 memory)
-is_refusal ks e (fault.Words error) (inr among) of = subst (λ (x : Error). IsAmong (kind_of x) ks) (sym of.0) among
-is_refusal ks e fault.NotText h of = absurd of
-is_refusal ks e (fault.Text refused) h of = absurd of
-is_refusal ks e (fault.File source) h of = absurd of
-is_refusal ks e fault.Write h of = absurd of
-is_refusal ks e (fault.Graph name) h of = absurd of
-is_refusal ks e fault.Unconfirmed h of = absurd of
+pub is_refusal : (ks : Kinds) (e : Error) (f : WordFault) → HasKind ks e → IsFaultOf e f → IsRefusal ks f
+is_refusal ks e Memory h of = tt
+is_refusal ks e (Words error) (inl memory) of = absurd (of.1 memory)
+is_refusal ks e (Words error) (inr among) of = subst (λ (x : Error). IsAmong (kind_of x) ks) (sym of.0) among

@@ -4,7 +4,7 @@ use Rattle.clap.specs.Walk.{Text}
 use Rattle.clap.specs.declared.error.kind.ErrorKind.TheVariants.{ArgumentConflict, InvalidSubcommand, MissingRequiredArgument, MissingSubcommand, UnknownArgument, ValueValidation}
 use Rattle.clap.proofs.OnLiterals.{clap_on_literals}
 use Rattle.asm_explore_words.specs.CommandLine.{command, commands, random_command, run_command}
-use Rattle.asm_explore_words.specs.WordsSaid.{AsksForHelp, task_refusals}
+use Rattle.asm_explore_words.specs.WordsSaid.{AskForHelp, task_refusals}
 
 abbrev one : List Text
 one = codes "x.asm" ∷ []
@@ -51,18 +51,18 @@ both_are_input = refl
 
 -- ---- what is asked for
 
-help : AsksForHelp (codes "--help" ∷ [])
+help : AskForHelp (task_refusals (codes "--help" ∷ []))
 unfolding commands command random_command run_command clap_on_literals
 help = inl (inl refl)
 
-help_of_all : AsksForHelp (codes "all" ∷ codes "-h" ∷ [])
+help_of_all : AskForHelp (task_refusals (codes "all" ∷ codes "-h" ∷ []))
 unfolding command clap_on_literals
 help_of_all = inl (inl refl)
 
-version : AsksForHelp (codes "--version" ∷ [])
+version : AskForHelp (task_refusals (codes "--version" ∷ []))
 unfolding commands command random_command run_command clap_on_literals
 version = inr (inl refl)
 
-help_as_a_command : AsksForHelp (codes "help" ∷ [])
+help_as_a_command : AskForHelp (task_refusals (codes "help" ∷ []))
 unfolding commands command random_command run_command clap_on_literals
 help_as_a_command = inl (inl refl)

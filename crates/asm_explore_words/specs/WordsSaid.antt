@@ -9,7 +9,7 @@
 --                                   `clash`
 --     task_refusals words           the kinds of what is wrong with the command and the words behind
 --                                   it, none if they are taken
---     AsksForHelp words             they ask for help or for the version
+--     AskForHelp kinds              words of these kinds ask for help or for the version
 --     IsRefusal kinds fault         words are refused by a fault of one of these kinds, or memory
 --                                   ran out
 use Rattle.std.specs.Prelude.{◌≡◌, ◌⊎◌, ℕ, Bool, true, false, ◌&&◌, ◌||◌, List, [], ◌∷◌, Option, Some, None, cond, option_map, codes, is_some, ⊤}
@@ -30,8 +30,8 @@ use Rattle.clap.specs.declared.parser.matches.Found.{Found}
 use Rattle.asm_limits.specs.Limits.{NumberOption, are_within, turns_option, workers_option}
 use Rattle.asm_arguments.specs.Numbers.{AreNumbers, HaveNumbers}
 use Rattle.asm_explore_words.specs.CommandLine.{command, command_refusals, most_unsigned, outcomes_option, refusals, random_command, random_refusals, run_command, run_refusals, runs_option, states_option, steps_or_else}
-use Rattle.asm_explore_words.specs.declared.fault.Fault.{Fault}
-use Rattle.asm_explore_words.specs.declared.fault.Fault.TheVariants.{Memory, Words}
+use Rattle.asm_explore_words.specs.declared.settings.WordFault.{WordFault}
+use Rattle.asm_explore_words.specs.declared.settings.WordFault.TheVariants.{Memory, Words}
 use Rattle.asm_explore_words.specs.declared.settings.RandomSettings.{RandomSettings}
 use Rattle.asm_explore_words.specs.declared.settings.RunSettings.{RunSettings}
 use Rattle.asm_explore_words.specs.declared.settings.Settings.{Settings}
@@ -181,18 +181,16 @@ AreRunSaid words settings = AreRunTaken words × AreRunRead (run_rows words) set
 
 -- ---- faults
 
-abbrev pub IsRefusal : Kinds → Fault → Type 0
+abbrev pub IsRefusal : Kinds → WordFault → Type 0
 IsRefusal kinds Memory = ⊤
 IsRefusal kinds (Words error) = IsAmong (kind_of error) kinds
-IsRefusal kinds _ = ⊥
 
 abbrev pub one_run_refusals : List Text → Kinds
 one_run_refusals words = kinds.or_else (run_refusals words) (cond (are_both_input words) (ArgumentConflict ∷ []) [])
 
-abbrev pub IsFaultOf : Error → Fault → Type 0
+abbrev pub IsFaultOf : Error → WordFault → Type 0
 IsFaultOf error Memory = kind_of error ≡ OutOfMemory
 IsFaultOf error (Words e) = (e ≡ error) × ¬ (kind_of error ≡ OutOfMemory)
-IsFaultOf error _ = ⊥
 
 -- ---- after the command
 
@@ -219,5 +217,5 @@ abbrev pub task_refusals : List Text → Kinds
 task_refusals [] = command_refusals []
 task_refusals (command ∷ words) = refusals_behind command words (command ∷ words)
 
-abbrev pub AsksForHelp : List Text → Type 0
-AsksForHelp words = IsAmong DisplayHelp (task_refusals words) ⊎ IsAmong DisplayVersion (task_refusals words)
+abbrev pub AskForHelp : Kinds → Type 0
+AskForHelp kinds = IsAmong DisplayHelp kinds ⊎ IsAmong DisplayVersion kinds

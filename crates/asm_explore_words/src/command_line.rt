@@ -8,15 +8,14 @@ ghost use Rattle.clap.specs.declared.error.kind.ErrorKind.TheVariants.{ArgumentC
 ghost use Rattle.asm_arguments.specs.Numbers.{HaveNumbers};
 ghost use Rattle.asm_explore_words.specs.CommandLine as line;
 ghost use Rattle.asm_explore_words.specs.CommandLine.{command_refusals, named, random_refusals, refusals, run_refusals};
-ghost use Rattle.asm_explore_words.specs.WordsSaid.{AreParsed, AreRead, AreRunParsed, AreRunRead, AreRunSaid, AreSaid, AreSaidBehind, IsFaultOf, IsRefusal, are_in_range, are_run_in_range, is_task_in_range, number_options, one_run_refusals, run_number_options, run_rows, task_refusals};
+ghost use Rattle.asm_explore_words.specs.WordsSaid.{AreParsed, AreRead, AreRunParsed, AreRunRead, AreRunSaid, AreSaid, AreSaidBehind, IsRefusal, are_in_range, are_run_in_range, is_task_in_range, number_options, one_run_refusals, run_number_options, run_rows, task_refusals};
 
 use crate::arguments::{is_set, texts_of};
 use crate::commands::{Argument, described, with_arguments};
-use crate::fault::Fault;
 use crate::help;
 use crate::number_options::{OUTCOMES, RUN_STEPS, STATES, STEPS, TURNS, WORKERS};
 use crate::random_words::{random, random_settings};
-use crate::settings::{RunSettings, Settings, Task, is_standard_input};
+use crate::settings::{RunSettings, Settings, Task, WordFault, is_standard_input};
 use crate::text_options::{
     ALWAYS, ALWAYS_FILE, DEADLOCK_UNLESS, DOT, PROGRESS, SCRIPT, TRACE, WITHIN,
 };
@@ -69,20 +68,9 @@ static RUN_ARGUMENTS: [Argument; 4] = [
     SCRIPT,
 ];
 
-impl<'w> From<Error> for Fault<'w> {
-    ghost from_gives = { λ error fault. IsFaultOf error fault };
-
-    fn from(error: Error) -> Fault<'w> {
-        match error.kind() {
-            ErrorKind::OutOfMemory => Fault::Memory,
-            _ => Fault::Words(error),
-        }
-    }
-}
-
 /// The command and the settings that the words give, the program's name not among them. The first
 /// word names the command.
-pub fn settings<'w, S: AsStr>(alloc: Global, words: &'w [S]) -> Result<Task<'w>, Fault<'w>>
+pub fn settings<'w, S: AsStr>(alloc: Global, words: &'w [S]) -> Result<Task<'w>, WordFault>
     ensures in_range { IfOk result (λ task. IsTrue (is_task_in_range task)) }
     ensures said { IfOk result (AreSaidBehind (map S.text words.entry.now)) }
     ensures taken { IfOk result (λ _. task_refusals (map S.text words.entry.now) ≡ []) }
@@ -105,7 +93,7 @@ pub fn settings<'w, S: AsStr>(alloc: Global, words: &'w [S]) -> Result<Task<'w>,
 }
 
 /// What the words after `all` ask for.
-fn all_task<'w, S: AsStr>(alloc: Global, words: &'w [S]) -> Result<Task<'w>, Fault<'w>>
+fn all_task<'w, S: AsStr>(alloc: Global, words: &'w [S]) -> Result<Task<'w>, WordFault>
     ensures in_range { IfOk result (λ task. IsTrue (is_task_in_range task)) }
     ensures said { IfOk result (AreSaidBehind (codes "all" ∷ map S.text words.entry.now)) }
     ensures refused { IfErr result (IsRefusal (refusals (map S.text words.entry.now))) }
@@ -115,7 +103,7 @@ fn all_task<'w, S: AsStr>(alloc: Global, words: &'w [S]) -> Result<Task<'w>, Fau
 }
 
 /// What the words after `random` ask for.
-fn random_task<'w, S: AsStr>(alloc: Global, words: &'w [S]) -> Result<Task<'w>, Fault<'w>>
+fn random_task<'w, S: AsStr>(alloc: Global, words: &'w [S]) -> Result<Task<'w>, WordFault>
     ensures in_range { IfOk result (λ task. IsTrue (is_task_in_range task)) }
     ensures said { IfOk result (AreSaidBehind (codes "random" ∷ map S.text words.entry.now)) }
     ensures refused { IfErr result (IsRefusal (random_refusals (map S.text words.entry.now))) }
@@ -187,7 +175,7 @@ fn run_settings<'w, S: AsStr>(
     called: &'w str,
     about: &'w str,
     words: &'w [S],
-) -> Result<RunSettings<'w>, Fault<'w>>
+) -> Result<RunSettings<'w>, WordFault>
     ensures in_range { IfOk result (λ s. IsTrue (are_run_in_range s)) }
     ensures said { IfOk result (AreRunSaid (map S.text words.entry.now)) }
     ensures refused { IfErr result (IsRefusal (one_run_refusals (map S.text words.entry.now))) }
@@ -264,7 +252,7 @@ fn run_command<'w>(
 }
 
 /// The fault of words that don't begin with a command.
-fn without_command<'w, S: AsStr>(alloc: Global, words: &'w [S]) -> Fault<'w>
+fn without_command<S: AsStr>(alloc: Global, words: &[S]) -> WordFault
     ensures { IsRefusal (command_refusals (map S.text words.entry.now)) result }
 {
     match commands(alloc) {
