@@ -1,5 +1,5 @@
 pub mod Appending
 mod FilesInTurn
 mod InputOnce
+mod OutputBytes
 mod ReportStatuses
-mod Written

@@ -1,4 +1,4 @@
-use Rattle.asm_explore_tool.proofs.Written.{on_err, whole_is_begun}
+use Rattle.asm_explore_tool.proofs.OutputBytes.{on_err, whole_is_begun}
 use Rattle.asm_explore_tool.proofs.written.written.Goals as goal
 
 pub returns-clause-begun : goal.returns-clause-begun
