@@ -26,9 +26,6 @@ fn message<W: Write>(fault: &Fault<'_>, out: &mut W) -> fmt::Result {
         Fault::Unconfirmed => {
             out.write_str("asm-explore: an error of this program: the script leads to no fault\n")
         }
-        Fault::Unwritten => out.write_str(
-            "asm-explore: the run has too many choices for a script: ask for fewer --steps\n",
-        ),
     }
 }
 

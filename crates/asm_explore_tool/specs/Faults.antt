@@ -14,7 +14,6 @@ status_of_fault (fault.File source) = 3
 status_of_fault fault.Write = 3
 status_of_fault (fault.Graph name) = 3
 status_of_fault fault.Unconfirmed = 3
-status_of_fault fault.Unwritten = 3
 
 -- a fault of words that are refused, by the library that reads them
 abbrev pub IsOfWords : Fault → Type 0
@@ -26,4 +25,3 @@ IsOfWords (fault.File source) = ⊥
 IsOfWords fault.Write = ⊥
 IsOfWords (fault.Graph name) = ⊥
 IsOfWords fault.Unconfirmed = ⊥
-IsOfWords fault.Unwritten = ⊥
