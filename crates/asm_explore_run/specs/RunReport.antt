@@ -40,9 +40,9 @@ run_asked tree settings script = run (specification_of tree) settings.turns scri
 
 abbrev pub choices_status : shown.End → (all_met : Bool) → ℕ
 choices_status Limit all_met = cond all_met 0 6
-choices_status Clash all_met = 1
-choices_status Outside all_met = 1
-choices_status Exhausted all_met = 1
+choices_status (Clash step f vs least greatest) all_met = 1
+choices_status (Outside step f) all_met = 1
+choices_status (Exhausted step q) all_met = 1
 
 abbrev pub IsRunStatus : End → ℕ → Type 0
 IsRunStatus AtLimit status = (status ≡ 0) ⊎ (status ≡ 6)

@@ -2,9 +2,9 @@
 use crate::choose_line::push_values;
 use asm_check::Checked;
 use asm_clash::assignment::Assignment;
-use asm_explore_report::value_text::push_value;
 use asm_explore_texts::path_text::{push_path, push_position};
 use asm_explore_texts::rule_in_text::{RuleInText, rule_in_text};
+use asm_run::locations::push_value;
 use asm_state::word::Word;
 use asm_syntax::name::Name;
 use std::alloc::{AllocError, Global};
@@ -29,31 +29,18 @@ pub(crate) fn assignment_line(
     line.extend_from_slice(b"place ")?;
     push_path(alloc, &mut line, path)?;
     line.extend_from_slice(b": ")?;
-    push_location(
-        alloc,
-        &mut line,
-        checked,
-        &place,
-        assignment.arguments.as_slice(),
-        location,
-    )?;
+    let arguments = assignment.arguments.as_slice();
+    push_location(&mut line, checked, &place, arguments, location)?;
     line.extend_from_slice(b" := ")?;
-    push_value(alloc, &mut line, checked, assignment.value.value())?;
+    push_value(&mut line, checked, assignment.value)?;
     if let Some(place) = &place {
-        push_bound(
-            alloc,
-            &mut line,
-            checked,
-            place,
-            assignment.bound.as_slice(),
-        )?;
+        push_bound(&mut line, checked, place, assignment.bound.as_slice())?;
     }
     Ok(line)
 }
 
 /// Adds the location that an assignment names: of `result` this one, and else by the arguments.
 fn push_location(
-    alloc: Global,
     line: &mut Vec<u8>,
     checked: &Checked,
     place: &Option<RuleInText<'_>>,
@@ -67,12 +54,11 @@ fn push_location(
         }
         line.extend_from_slice(name)?;
     }
-    push_arguments(alloc, line, checked, arguments)
+    push_arguments(line, checked, arguments)
 }
 
 /// Adds arguments in brackets, if there are any.
 fn push_arguments(
-    alloc: Global,
     line: &mut Vec<u8>,
     checked: &Checked,
     arguments: &[Word],
@@ -81,14 +67,13 @@ fn push_arguments(
         return Ok(());
     }
     line.push(b'(')?;
-    push_values(alloc, line, checked, arguments)?;
+    push_values(line, checked, arguments)?;
     line.push(b')')?;
     Ok(())
 }
 
 /// Adds the names that are bound and not hidden, each with its value.
 fn push_bound(
-    alloc: Global,
     line: &mut Vec<u8>,
     checked: &Checked,
     place: &RuleInText<'_>,
@@ -100,7 +85,7 @@ fn push_bound(
             line.extend_from_slice(b", ")?;
             line.extend_from_slice(names[i].text.as_bytes())?;
             line.extend_from_slice(b" = ")?;
-            push_value(alloc, line, checked, values[i].value())?;
+            push_value(line, checked, values[i])?;
         }
     }
     Ok(())

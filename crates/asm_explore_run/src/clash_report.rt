@@ -69,10 +69,17 @@ fn printed<'w>(
 ) -> Result<Vec<u8>, AllocError>
     ensures { IfOk result (λ text. (first : List ℕ) × IsClashText first (length (assignments_in clash.now)) text.items) }
 {
-    let first = ended.line(alloc, settings.steps)?;
-    let location = ended.location(alloc)?;
+    let first = ended.line(alloc, checked, settings.steps)?;
+    let location = ended.location(alloc, checked)?;
     let shown = assignments(clash);
-    let text = clash_text(alloc, text, checked, first.as_slice(), shown, location)?;
+    let text = clash_text(
+        alloc,
+        text,
+        checked,
+        first.as_slice(),
+        shown,
+        location.as_slice(),
+    )?;
     Ok(text)
 }
 
