@@ -33,12 +33,12 @@ use std::thread::Threads;
 const MAX_LINES: usize = 349_525;
 
 /// The status of a run that ends so, if all lines of the script were met, or if some weren't.
-fn status_of(end: End, all_met: bool) -> u8
-    ensures { result ≡ choices_status end all_met }
+fn status_of(end: &End, all_met: bool) -> u8
+    ensures { result ≡ choices_status end.now all_met }
 {
     match end {
         End::Limit => { if all_met { 0 } else { 6 } }
-        End::Clash | End::Outside | End::Exhausted => 1,
+        End::Clash { .. } | End::Outside { .. } | End::Exhausted { .. } => 1,
     }
 }
 
@@ -146,7 +146,7 @@ fn reported<'w>(
 {
     let first = ended.line(alloc, settings.steps)?;
     let unmet = unmet_lines(alloc, script_text, run)?;
-    let status = status_of(ended.end, unmet.is_empty());
+    let status = status_of(&ended.end, unmet.is_empty());
     let text = printed(
         alloc,
         text,
