@@ -22,9 +22,9 @@ pub choices_told : (end : End) (answer : shown.End) (all_met : Bool) → IsRetur
 choices_told AtLimit answer all_met is = subst (λ a. IsRunStatus AtLimit (choices_status a all_met)) (sym is) (zero_or_six all_met)
 choices_told (AtExhausted step q) answer all_met is = ap (λ a. choices_status a all_met) is
 choices_told (AtFault step U) Limit all_met is = absurd is
-choices_told (AtFault step U) Exhausted all_met is = absurd is
-choices_told (AtFault step U) Clash all_met is = refl
-choices_told (AtFault step U) Outside all_met is = refl
+choices_told (AtFault step U) (Exhausted at q) all_met is = absurd is
+choices_told (AtFault step U) (Clash at f vs least greatest) all_met is = refl
+choices_told (AtFault step U) (Outside at f) all_met is = refl
 
 pub clash_told : (tree : Spec) (turns : ℕ) (script : Script) (r : Run) (ended : ClashOfRun) → EndsSo tree turns script r ended → clash_status ended ≡ status_of_end r.end
 clash_told tree turns script r clash.Limit ends = sym (ap status_of_end ends)

@@ -144,7 +144,7 @@ fn reported<'w>(
     ensures printed { IfOk result (λ report. IsPrintedOf (lines_forward (choices_in run.now)) report.text.items) }
     ensures status { IfOk result (λ report. (all_met : Bool) × report.status ≡ choices_status ended.now.end all_met) }
 {
-    let first = ended.line(alloc, settings.steps)?;
+    let first = ended.line(alloc, checked, settings.steps)?;
     let unmet = unmet_lines(alloc, script_text, run)?;
     let status = status_of(&ended.end, unmet.is_empty());
     let text = printed(

@@ -86,7 +86,7 @@ fn printed<'w>(
     ensures { let names = names_in (spec_of checked.now.spec) in
         IfOk result (λ text. (first : List ℕ) × IsClashText names ended.now.end first (assignments_in clash.now) (count_in clash.now) text.items) }
 {
-    let first = ended.line(alloc, settings.steps)?;
+    let first = ended.line(alloc, checked, settings.steps)?;
     let found = assignments(clash);
     let count = count_of(clash);
     let text = clash_text(
