@@ -75,7 +75,7 @@ fn push_candidates(
 }
 
 /// Adds values, with a comma between each two.
-pub(crate) fn push_values(
+fn push_values(
     line: &mut Vec<u8>,
     checked: &Checked,
     values: &[Word],
