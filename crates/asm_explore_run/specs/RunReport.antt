@@ -2,10 +2,10 @@
 --     status_of_end end               1 if the run ends before its limit, and else 0
 --     IsRunStatus end status          the same, or 6 instead of 0
 --     IsChoicesText                   a script with comments between its lines
---     IsPrintedOf                     some first comment, and such a script
---     AreChoicesReported              what is printed is a script with a line for each choice of
---                                     the run, under which the run is the same; where that has no
---                                     text, its first comment
+--     IsPrintedOf Tells               a first comment that tells this, and such a script
+--     AreChoicesReported              what is printed is how the run ends, in a comment, and a
+--                                     script with a line for each choice of the run, under which
+--                                     the run is the same; where that has no text, the comment
 --     assignments_in, count_in        the first assignments by which a run ends, if it has such, and
 --                                     how many there are
 --     IsClashReported                 comments: how the run ends, and one for each assignment by
@@ -30,6 +30,7 @@ use Rattle.asm_clash.specs.declared.assignment.Assignment.{Assignment}
 use Rattle.asm_clash.specs.declared.clash.ClashOfRun.{ClashOfRun}
 use Rattle.asm_clash.specs.declared.clash.ClashOfRun.TheVariants as clash
 use Rattle.asm_explore_report.specs.Commented.{HasNoText, IsCommentedText, IsWithoutScript, said_by}
+use Rattle.asm_explore_report.specs.EndWords.{IsRunLine}
 use Rattle.asm_explore_report.specs.declared.commented.Entry.{Entry}
 use Rattle.asm_explore_run.specs.ClashText.{IsClashText, greatest_shown}
 use Rattle.asm_explore_report.specs.declared.report.Report.{Report}
@@ -79,9 +80,10 @@ count_in clash.Limit = 0
 count_in (clash.Exhausted step q) = 0
 count_in (clash.Faulty step fault found count) = count
 
--- some first comment, and it spells the script, unless that has no text
-pub record IsPrintedOf (lines : List Line) (text : List ℕ) : Type 0 where
+-- a first comment that tells this, and it spells the script, unless that has no text
+pub record IsPrintedOf (Tells : List ℕ → Type 0) (lines : List Line) (text : List ℕ) : Type 0 where
   pub first : List ℕ
+  pub tells : Tells first
   pub is : IsChoicesText first lines text
   pub says : IsUnrepeated (exactly lines) → IsScript text (exactly lines) ⊎ HasNoText first lines
 
@@ -93,7 +95,7 @@ module _ (text script_text : List ℕ) (settings : RunSettings) (report : Report
     pub spelled : IsScript script_text script
     pub steps : List (List Choice)
     pub choices : AreChoices tree settings.turns script settings.steps steps
-    pub printed : IsPrintedOf (lines_forward steps) report.text.items
+    pub printed : IsPrintedOf (IsRunLine (names_in tree) settings.steps (run_asked tree settings script).end) (lines_forward steps) report.text.items
     pub apart : IsUnrepeated (exactly (lines_forward steps))
     pub again : run_asked tree settings (exactly (lines_forward steps)) ≡ run_asked tree settings script
     pub status : IsRunStatus (run_asked tree settings script).end report.status
@@ -109,5 +111,6 @@ module _ (text script_text : List ℕ) (settings : RunSettings) (report : Report
     pub end : shown.End
     pub answered : IsReturned (run_asked tree settings script).end end
     pub first : List ℕ
+    pub tells : IsRunLine (names_in tree) settings.steps (run_asked tree settings script).end first
     pub printed : IsClashText (names_in tree) end first (assignments_in clash) (count_in clash) report.text.items
     pub status : report.status ≡ status_of_end (run_asked tree settings script).end

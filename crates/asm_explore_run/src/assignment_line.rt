@@ -1,5 +1,5 @@
 //! What is said of an assignment.
-ghost use Rattle.std.specs.Prelude.{◌≡◌, ◌++◌, ℕ, List, Option, OnOk, IfOk};
+ghost use Rattle.std.specs.Prelude.{◌≡◌, ◌++◌, ◌∷◌, [], ℕ, List, Option, OnOk, IfOk};
 ghost use Rattle.asm_syntax.specs.code.Views.{spec_of};
 ghost use Rattle.asm_run.specs.Written.{names_in};
 ghost use Rattle.asm_explore_run.specs.ClashText.{IsLineOf, bound_text, located};
@@ -103,13 +103,30 @@ fn push_bound(
         OnOk result ((bound : List (Option (List ℕ))) × line.new.items ≡ line.old.items ++ bound_text names_there bound values.now) }
 {
     for i in 0..names.len().min(values.len()) {
-        if !is_among(&names[..i], names[i]) {
-            line.extend_from_slice(b", ")?;
-            line.extend_from_slice(names[i].text.as_bytes())?;
-            line.extend_from_slice(b" = ")?;
-            push_value(line, checked, values[i])?;
-        }
+        let is_hidden = is_among(&names[..i], names[i]);
+        push_if_shown(line, checked, is_hidden, names[i], &values[i])?;
     }
+    Ok(())
+}
+
+/// Adds a name with its value, unless it is hidden.
+fn push_if_shown(
+    line: &mut Vec<u8>,
+    checked: &Checked,
+    is_hidden: bool,
+    name: &Name,
+    value: &Word,
+) -> Result<(), AllocError>
+    ensures { let names = names_in (spec_of checked.now.spec) in
+        OnOk result ((shown : Option (List ℕ)) × line.new.items ≡ line.old.items ++ bound_text names (shown ∷ []) (value.now ∷ [])) }
+{
+    if is_hidden {
+        return Ok(());
+    }
+    line.extend_from_slice(b", ")?;
+    line.extend_from_slice(name.text.as_bytes())?;
+    line.extend_from_slice(b" = ")?;
+    push_value(line, checked, *value)?;
     Ok(())
 }
 

@@ -9,7 +9,10 @@ ghost use Rattle.asm_reader.specs.ScriptText.{IsScript};
 ghost use Rattle.asm_explore.specs.RunChoices.{AreChoices, MakesTheRun, choices_in, lines_forward};
 ghost use Rattle.asm_explore.specs.code.WrittenScripts.{lines_said};
 ghost use Rattle.asm_explore_report.specs.Commented.{HasNoText, said_by};
-ghost use Rattle.asm_run.specs.Headline.{IsAccepted};
+ghost use Rattle.asm_meaning.specs.Run as runs;
+ghost use Rattle.asm_run.specs.Headline.{IsAccepted, IsReturned};
+ghost use Rattle.asm_run.specs.Written.{names_in};
+ghost use Rattle.asm_explore_report.specs.EndWords.{IsRunLine};
 ghost use Rattle.asm_explore_run.specs.RunReport.{AreChoicesReported, IsChoicesText, IsPrintedOf, choices_status};
 
 use crate::choose_line::choose_line;
@@ -141,7 +144,9 @@ fn reported<'w>(
     run: &RunChoices,
     ended: &EndedRun,
 ) -> Result<Report, AllocError>
-    ensures printed { IfOk result (λ report. IsPrintedOf (lines_forward (choices_in run.now)) report.text.items) }
+    ensures printed { let names = names_in (spec_of checked.now.spec) in
+        (e : runs.End) → IsReturned e ended.now.end →
+        IfOk result (λ report. IsPrintedOf (IsRunLine names settings.now.steps e) (lines_forward (choices_in run.now)) report.text.items) }
     ensures status { IfOk result (λ report. (all_met : Bool) × report.status ≡ choices_status ended.now.end all_met) }
 {
     let first = ended.line(alloc, checked, settings.steps)?;

@@ -3,7 +3,9 @@ ghost use Rattle.std.specs.Prelude.{◌≡◌, ℕ, List, length, min, IfOk};
 ghost use Rattle.asm_syntax.specs.code.Views.{spec_of};
 ghost use Rattle.asm_reader.specs.ScriptLines.{Script};
 ghost use Rattle.asm_reader.specs.ScriptText.{IsScript};
-ghost use Rattle.asm_run.specs.Headline.{IsAccepted};
+ghost use Rattle.asm_meaning.specs.Run as runs;
+ghost use Rattle.asm_run.specs.Headline.{IsAccepted, IsReturned};
+ghost use Rattle.asm_explore_report.specs.EndWords.{IsRunLine};
 ghost use Rattle.asm_clash.specs.ClashOfRun.{EndsSo};
 ghost use Rattle.asm_clash.specs.code.ReadByCode.{AreReadByCode};
 ghost use Rattle.asm_run.specs.Written.{names_in};
@@ -84,7 +86,8 @@ fn printed<'w>(
 ) -> Result<Vec<u8>, AllocError>
     requires { length (assignments_in clash.now) ≡ min greatest_shown (count_in clash.now) }
     ensures { let names = names_in (spec_of checked.now.spec) in
-        IfOk result (λ text. (first : List ℕ) × IsClashText names ended.now.end first (assignments_in clash.now) (count_in clash.now) text.items) }
+        (e : runs.End) → IsReturned e ended.now.end →
+        IfOk result (λ text. (first : List ℕ) × IsRunLine names settings.now.steps e first × IsClashText names ended.now.end first (assignments_in clash.now) (count_in clash.now) text.items) }
 {
     let first = ended.line(alloc, checked, settings.steps)?;
     let found = assignments(clash);
