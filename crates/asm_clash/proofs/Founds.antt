@@ -25,9 +25,9 @@ none_found most found first count = record { first = ap all_detailed first ∙ s
 pub one_found : (most : ℕ) (d : Detailed) (found : Found) → found.count ≡ 1 → all_detailed found.first.items ≡ take most (d ∷ []) → IsFound most (d ∷ []) found
 one_found most d found count first = record { first = first; count = omega (arith, count) }
 
-pub none_kept : (most : ℕ) (d : Detailed) → ¬ (0 < most) → [] ≡ take most (d ∷ [])
+pub none_kept : (most : ℕ) (d : Detailed) → most ≤ 0 → [] ≡ take most (d ∷ [])
 none_kept zero d none = refl
-none_kept (suc most) d none = absurd (none (omega arith))
+none_kept (suc most) d none = absurd (omega (arith, none))
 
 pub one_kept : (most : ℕ) (d : Detailed) → 0 < most → d ∷ [] ≡ take most (d ∷ [])
 one_kept most d some = sym (take_all most (d ∷ []) (omega (arith, some)))
