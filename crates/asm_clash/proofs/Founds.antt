@@ -1,13 +1,11 @@
 -- Free. The first of some assignments, and how many there are.
 --     none_found, one_found         of none, and of one
 --     put_after                     of those after others
-use Rattle.std.proofs.Common.{◌≡◌, ◌<◌, ◌-◌, ◌+◌, ◌≤◌, ℕ, zero, suc, List, [], ◌∷◌, ◌++◌, length, map, min, take, refl, sym, ap, subst, ◌∙◌, arith, length-append}
+use Rattle.std.proofs.Common.{◌≡◌, ◌<◌, ◌-◌, ◌+◌, ◌≤◌, ℕ, zero, suc, List, [], ◌∷◌, ◌++◌, length, min, take, refl, sym, ap, ◌∙◌, arith, length-append}
 use Rattle.std.proofs.lemmas.List.{length-map, map-append, take_all}
 use Rattle.asm_meaning.specs.code.FormedOutcomes.{greatest_count}
-use Rattle.asm_clash.specs.Standing.{later}
 use Rattle.asm_clash.specs.code.BoundValues.{Detailed, all_detailed, detailed_of}
 use Rattle.asm_clash.specs.code.FirstFound.{IsFound}
-use Rattle.asm_clash.specs.declared.assignment.Assignment.{Assignment}
 use Rattle.asm_clash.specs.declared.found.Found.{Found}
 
 -- the first of two lists, one after the other

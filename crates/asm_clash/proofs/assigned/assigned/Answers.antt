@@ -1,5 +1,4 @@
-use Rattle.std.proofs.Common.{◌∷◌, [], refl, subst, arith}
-use Rattle.asm_state.specs.Signature.{location_at}
+use Rattle.std.proofs.Common.{refl, subst, arith}
 use Rattle.asm_code.specs.code.CodeViews.{code_of}
 use Rattle.asm_code.specs.code.RuleViews.{target_code_of}
 use Rattle.asm_eval.specs.code.Evaluation.{target_in}

@@ -3,7 +3,6 @@ use Rattle.asm_code.specs.code.CodeViews.{code_of}
 use Rattle.asm_code.specs.code.RuleViews.{target_code_of}
 use Rattle.asm_clash.specs.code.BoundValues.{all_detailed}
 use Rattle.asm_clash.specs.code.StandingRules.{detail_at}
-use Rattle.asm_clash.specs.declared.assignment.Assignment.{Assignment}
 use Rattle.asm_clash.proofs.Founds.{none_kept, one_kept}
 use Rattle.asm_clash.proofs.assigned.kept.Goals as goal
 

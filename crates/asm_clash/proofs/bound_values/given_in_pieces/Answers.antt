@@ -1,4 +1,4 @@
-use Rattle.std.proofs.Common.{◌≡◌, ◌∙◌, List, Vec, Global, subst}
+use Rattle.std.proofs.Common.{◌≡◌, ◌∙◌, List, subst}
 use Rattle.std.specs.Prelude.{IfOk}
 use Rattle.asm_state.specs.declared.value.Value.{Value}
 use Rattle.asm_clash.specs.code.StandingRules.{optional_arguments_at}

@@ -1,4 +1,4 @@
-use Rattle.std.proofs.Common.{rules, ◌≡◌, ◌<◌, ◌∙◌, ◌++◌, ◌-◌, [], Some, length, map, ap, sym, subst, refl, arith}
+use Rattle.std.proofs.Common.{rules, ◌<◌, ◌∙◌, ◌++◌, ◌-◌, [], Some, length, map, ap, sym, subst, refl, arith}
 use Rattle.std.specs.Prelude.{IfOk}
 use Rattle.asm_state.specs.Signature.{location_at}
 use Rattle.asm_state.specs.Updates.{fire}
@@ -14,7 +14,7 @@ use Rattle.asm_clash.specs.Standing.{later}
 use Rattle.asm_clash.specs.code.FirstFound.{IsFound}
 use Rattle.asm_clash.specs.code.StandingCodes.{standing}
 use Rattle.asm_clash.specs.code.StandingRules.{stands_at}
-use Rattle.asm_clash.proofs.ClosedRules.{assign_here, seq_here, other_here, closed_here, last_piece, next_piece, pieces_here, piece_here, sound_part, size_of_part}
+use Rattle.asm_clash.proofs.ClosedRules.{assign_here, seq_here, other_here, closed_here, next_piece, pieces_here, piece_here, sound_part, size_of_part}
 use Rattle.asm_clash.proofs.OpenedRules.{works_stand}
 use Rattle.asm_clash.proofs.NextParts.{next_set}
 use Rattle.asm_clash.proofs.StandingSequences.{order_begin, order_none, order_off, order_on, order_finish, turns_start, turn_none, turn_off, turn_on}
