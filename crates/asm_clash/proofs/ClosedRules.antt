@@ -25,7 +25,6 @@ use Rattle.asm_meaning.specs.Value.{Reading}
 use Rattle.asm_meaning.specs.Yields.{Path}
 use Rattle.asm_meaning.specs.declared.part.Part.TheVariants as part
 use Rattle.asm_code.specs.code.CodeViews.{code_of, codes_of}
-use Rattle.asm_code.specs.code.Readings.{reading}
 use Rattle.asm_code.specs.code.RuleMeaning.{IsSoundRule, AreSoundRules, Locations, target_location, rule_size, rule_sizes}
 use Rattle.asm_code.specs.code.RuleTree as tree
 use Rattle.asm_code.specs.code.RuleViews.{target_code_of, rule_of, rule_step, rules_of}

@@ -1,13 +1,11 @@
 -- Free. The first of some assignments, and how many there are.
 --     none_found, one_found         of none, and of one
 --     put_after                     of those after others
-use Rattle.std.proofs.Common.{◌≡◌, ◌<◌, ◌-◌, ◌+◌, ◌≤◌, ℕ, zero, suc, List, [], ◌∷◌, ◌++◌, length, map, min, take, refl, sym, ap, subst, ◌∙◌, arith, length-append}
+use Rattle.std.proofs.Common.{◌≡◌, ◌<◌, ◌-◌, ◌+◌, ◌≤◌, ℕ, zero, suc, List, [], ◌∷◌, ◌++◌, length, min, take, refl, sym, ap, ◌∙◌, arith, length-append}
 use Rattle.std.proofs.lemmas.List.{length-map, map-append, take_all}
 use Rattle.asm_meaning.specs.code.FormedOutcomes.{greatest_count}
-use Rattle.asm_clash.specs.Standing.{later}
 use Rattle.asm_clash.specs.code.BoundValues.{Detailed, all_detailed, detailed_of}
 use Rattle.asm_clash.specs.code.FirstFound.{IsFound}
-use Rattle.asm_clash.specs.declared.assignment.Assignment.{Assignment}
 use Rattle.asm_clash.specs.declared.found.Found.{Found}
 
 -- the first of two lists, one after the other
@@ -25,9 +23,9 @@ none_found most found first count = record { first = ap all_detailed first ∙ s
 pub one_found : (most : ℕ) (d : Detailed) (found : Found) → found.count ≡ 1 → all_detailed found.first.items ≡ take most (d ∷ []) → IsFound most (d ∷ []) found
 one_found most d found count first = record { first = first; count = omega (arith, count) }
 
-pub none_kept : (most : ℕ) (d : Detailed) → ¬ (0 < most) → [] ≡ take most (d ∷ [])
+pub none_kept : (most : ℕ) (d : Detailed) → most ≤ 0 → [] ≡ take most (d ∷ [])
 none_kept zero d none = refl
-none_kept (suc most) d none = absurd (none (omega arith))
+none_kept (suc most) d none = absurd (omega (arith, none))
 
 pub one_kept : (most : ℕ) (d : Detailed) → 0 < most → d ∷ [] ≡ take most (d ∷ [])
 one_kept most d some = sym (take_all most (d ∷ []) (omega (arith, some)))

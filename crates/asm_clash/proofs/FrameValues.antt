@@ -2,33 +2,24 @@
 --     bound_here          the values bound in a frame
 --     values_here         the values of codes, by the code of each
 --     given_elsewhere     what a rule gives its pieces that is no call
-use Rattle.std.proofs.Common.{◌≡◌, ℕ, List, [], ◌∷◌, ◌++◌, map, Option, Some, None, refl, sym, ap, ◌∙◌, Box, Vec, Global, Arc}
+use Rattle.std.proofs.Common.{◌≡◌, ℕ, List, [], ◌∷◌, ◌++◌, map, Option, Some, None, refl, sym, ap, ◌∙◌}
 use Rattle.asm_state.specs.declared.value.Value.{Value}
-use Rattle.asm_state.specs.Location.{Location, State}
-use Rattle.asm_state.specs.Signature.{Shape, location_at}
+use Rattle.asm_state.specs.Location.{State}
+use Rattle.asm_state.specs.Signature.{Shape}
 use Rattle.asm_state.specs.Words.{value_of_code}
 use Rattle.asm_meaning.specs.Value.{Reading}
 use Rattle.asm_meaning.specs.code.TermValues.{shown}
 use Rattle.asm_meaning.specs.declared.view.View.{View}
 use Rattle.asm_code.specs.code.CodeViews.{code_of, codes_of}
-use Rattle.asm_code.specs.code.Readings.{always, reading, readings}
+use Rattle.asm_code.specs.code.Readings.{always, readings}
 use Rattle.asm_code.specs.code.RuleMeaning.{Locations, result_locations}
-use Rattle.asm_code.specs.code.RuleTree as tree
-use Rattle.asm_code.specs.code.RuleViews.{rule_of, rule_step}
 use Rattle.asm_code.specs.declared.code.Code.{Code}
-use Rattle.asm_code.specs.declared.rule_code.TargetCode.{TargetCode}
-use Rattle.asm_code.specs.declared.rule_code.RuleCode.{RuleCode, roll-out-RuleCode}
-use Rattle.asm_code.specs.declared.rule_code.RuleCode.TheOpen.{RuleCode-F}
-use Rattle.asm_code.specs.declared.rule_code.RuleCode.TheOpen as opened_code
-use Rattle.asm_code.specs.declared.rule_code.RuleCode.TheViews.{roll-RuleCode, out-RuleCode}
-use Rattle.asm_code.specs.declared.rule_code.RuleCode.TheVariants as code
-use Rattle.asm_code.specs.declared.rule_code.RuleCode.TheFolds.{fold-roll-RuleCode}
 use Rattle.asm_eval.specs.code.Evaluation.{frame_locations, location_numbered}
 use Rattle.asm_eval.specs.code.Frames.{by_name, code_value, readings_of, result_contents}
 use Rattle.asm_eval.specs.declared.frame.Frame.{Frame}
 use Rattle.asm_eval.specs.declared.frame.Frame.TheVariants as frame
 use Rattle.asm_clash.specs.code.BoundValues.{bound_of}
-use Rattle.asm_clash.specs.code.StandingRules.{bound_at, bound_in, given_below, given_by}
+use Rattle.asm_clash.specs.code.StandingRules.{bound_at, bound_in}
 
 module _ (view : View) where
   abbrev shape : Shape

@@ -1,6 +1,7 @@
 -- Free. An assignment's update is at a location just when its target has the location's number.
+--     no_number                      a number that is none
 --     none_here, elsewhere, here     if it has none, another one, and that one
-use Rattle.std.proofs.Common.{◌≡◌, ℕ, ◌<◌, true, false, cond, [], ◌∷◌, Option, Some, None, ap, sym, subst, ◌∙◌}
+use Rattle.std.proofs.Common.{◌≡◌, ℕ, ◌<◌, true, false, cond, [], ◌∷◌, Option, Some, None, refl, ap, sym, subst, ◌∙◌}
 use Rattle.std.specs.Prelude.{IfSome}
 use Rattle.std.specs.Cmp.{Equal-is, tied_itself}
 use Rattle.std.proofs.lemmas.Bool.{false_from_ne_true}
@@ -19,6 +20,10 @@ location_itself l = (Equal-is (location_cmp l l)).1 (tied_itself location_cmp-to
 
 pub some_below : (shape : Shape) (o : Option ℕ) (m : ℕ) → o ≡ Some m → IfSome o (λ k. k < count_of shape) → m < count_of shape
 some_below shape o m is low = subst (λ x. IfSome x (λ k. k < count_of shape)) is low
+
+pub no_number : (o : Option ℕ) → ((m : ℕ) → o ≡ Some m → ⊥) → o ≡ None
+no_number None other = refl
+no_number (Some m) other = absurd (other m refl)
 
 module _ (shape : Shape) (n : ℕ) (to : Option Location) (o : Option ℕ) (d : Detailed) (is : location_numbered shape o ≡ to) where
   pub none_here : o ≡ None → [] ≡ assigned_at (location_at shape n) to d

@@ -2,7 +2,7 @@
 -- keeps.
 --     order_begin, order_none, order_off, order_on, order_finish     of parts in order
 --     turns_start, turn_none, turn_off, turn_on, turns_finish        of turns
-use Rattle.std.proofs.Common.{◌≡◌, ℕ, ◌+◌, ◌<◌, ◌≤◌, true, false, List, [], ◌∷◌, length, get_or, Option, Some, None, refl, subst, ◌∙◌, arith}
+use Rattle.std.proofs.Common.{◌≡◌, ℕ, ◌+◌, ◌<◌, ◌≤◌, true, false, List, [], length, get_or, Option, Some, None, refl, subst, ◌∙◌}
 use Rattle.asm_state.specs.declared.value.Value.{Value}
 use Rattle.asm_state.specs.Location.{Location, State}
 use Rattle.asm_state.specs.Signature.{Shape}
@@ -17,7 +17,6 @@ use Rattle.asm_code.specs.code.RuleMeaning.{Locations, meaning}
 use Rattle.asm_code.specs.code.RuleTree as tree
 use Rattle.asm_code.specs.code.RuleViews.{rule_of}
 use Rattle.asm_code.specs.declared.rule_code.RuleCode.{RuleCode}
-use Rattle.asm_clash.specs.Standing.{later}
 use Rattle.asm_clash.specs.code.BoundValues.{Detailed}
 use Rattle.asm_clash.specs.code.StandingCodes.{standing}
 use Rattle.asm_clash.specs.code.StandingRules.{IsNext}

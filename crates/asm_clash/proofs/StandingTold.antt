@@ -6,7 +6,7 @@ use Rattle.std.proofs.lemmas.List.{map-append}
 use Rattle.std.specs.Prelude.{slice_index_or, length, ◌%◌}
 use Rattle.asm_state.specs.declared.value.Value.{Value}
 use Rattle.asm_state.specs.Location.{Location, State}
-use Rattle.asm_state.specs.Signature.{Shape}
+use Rattle.asm_state.specs.Signature.{Shape, is_location}
 use Rattle.asm_state.specs.Updates.{UpdateSet, is_consistent, is_none, fire}
 use Rattle.asm_meaning.specs.Does.{Outcome, both, counted, following, part_and, turn_and, parts, in_order, each, one_of, turns_of}
 use Rattle.asm_meaning.specs.Program.{nothing_bound}

@@ -1,5 +1,5 @@
 //! Whether an assignment's update is at a location.
-ghost use Rattle.std.specs.Prelude.{◌≡◌, ◌<◌, IfOk};
+ghost use Rattle.std.specs.Prelude.{◌≡◌, ◌<◌, ◌∷◌, [], take, IfOk};
 ghost use Rattle.asm_state.specs.Signature.{count_of, location_at};
 ghost use Rattle.asm_code.specs.code.CodeViews.{code_of};
 ghost use Rattle.asm_code.specs.code.RuleMeaning.{IsSoundTarget};
@@ -7,7 +7,7 @@ ghost use Rattle.asm_code.specs.code.RuleViews.{target_code_of};
 ghost use Rattle.asm_code.specs.code.SoundCodes.{IsSound};
 ghost use Rattle.asm_eval.specs.code.Frames.{IsSoundFrame};
 ghost use Rattle.asm_eval.specs.code.Evaluation.{target_in};
-ghost use Rattle.asm_clash.specs.code.BoundValues.{detailed_of};
+ghost use Rattle.asm_clash.specs.code.BoundValues.{all_detailed, detailed_of};
 ghost use Rattle.asm_clash.specs.code.FirstFound.{IsFound};
 ghost use Rattle.asm_clash.specs.code.StandingCodes.{assigned_at};
 ghost use Rattle.asm_clash.specs.code.StandingRules.{detail_at};
@@ -33,29 +33,50 @@ pub(crate) fn assigned<'e>(
     place: &'e TargetCode,
     term: &'e Code,
     path: &[u64],
-    sought: Sought<'_>,
+    sought: &Sought<'_>,
 ) -> Result<Found, AllocError>
-    requires number { sought.location < count_of view.now.signature.now }
+    requires number { sought.now.location < count_of view.now.signature.now }
     requires sound { IsSoundTarget view.now.signature.now (target_code_of place.now) }
     requires sound_term { IsSound view.now.signature.now (code_of term.now) }
     requires framed { IsSoundFrame view.now.signature.now frame.now }
-    ensures { IfOk result (IsFound sought.most
-        (assigned_at (location_at view.now.signature.now sought.location) (target_in view.now frame.now (target_code_of place.now))
-        (detail_at view.now frame.now sought.given.now (target_code_of place.now) (code_of term.now) path.now))) }
+    ensures { IfOk result (IsFound sought.now.most
+        (assigned_at (location_at view.now.signature.now sought.now.location) (target_in view.now frame.now (target_code_of place.now))
+        (detail_at view.now frame.now sought.now.given.now (target_code_of place.now) (code_of term.now) path.now))) }
 {
-    let mut found = Found::none(alloc);
+    let found = Found::none(alloc);
     let Some(m) = target_number(alloc, view, frame, place)? else {
         return Ok(found);
     };
     if m != sought.location {
         return Ok(found);
     }
-    found.count = 1;
+    let first = kept(alloc, view, frame, place, term, path, sought)?;
+    Ok(Found { first, count: 1 })
+}
+
+/// The assignment of a term's value to a target, if any is kept.
+fn kept<'e>(
+    alloc: Global,
+    view: &View<'_>,
+    frame: &'e Frame<'e>,
+    place: &'e TargetCode,
+    term: &'e Code,
+    path: &[u64],
+    sought: &Sought<'_>,
+) -> Result<Vec<Assignment>, AllocError>
+    requires sound { IsSoundTarget view.now.signature.now (target_code_of place.now) }
+    requires sound_term { IsSound view.now.signature.now (code_of term.now) }
+    requires framed { IsSoundFrame view.now.signature.now frame.now }
+    ensures { IfOk result (λ first. all_detailed first.items ≡ take sought.now.most
+        (detail_at view.now frame.now sought.now.given.now (target_code_of place.now) (code_of term.now) path.now ∷ [])) }
+{
+    let mut first = Vec::new(alloc);
     if sought.most > 0 {
         let assignment = assignment(alloc, view, frame, place, term, path, sought.given)?;
-        found.first.push(assignment)?;
+        first.push(assignment)?;
+        return Ok(first);
     }
-    Ok(found)
+    Ok(first)
 }
 
 /// The assignment of a term's value to a target.

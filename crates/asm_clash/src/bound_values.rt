@@ -28,10 +28,11 @@ pub(crate) fn given_in_pieces<'e>(
     ensures { IfOk result (λ values. values.items ≡ given_below view.now frame.now given.now (rule_of rule.now)) }
 {
     match rule {
-        RuleCode::Call { answer, .. } => {
-            arguments_of_target(alloc, view, frame, answer, given)
+        RuleCode::Call { answer, .. } => { arguments_of_target(alloc, view, frame, answer, given) }
+        _ => {
+            let own = Vec::from_slice(alloc, given)?;
+            Ok(own)
         }
-        _ => Vec::from_slice(alloc, given),
     }
 }
 

@@ -33,19 +33,19 @@ use asm_updates::summary::Summary;
 use std::alloc::{AllocError, Global};
 
 /// The assignments of the piece's rule whose updates stand at the location that is sought, in the
-/// set that the piece yields, in the order of evaluation: the first of them, and how many there are.
+/// set that the piece yields, in the order of evaluation: the first, and how many there are.
 #[cycle(walk)]
 pub fn standing_in<'e, P: Picks>(
     alloc: Global,
     evaluation: &Evaluation<'_, '_, P>,
     piece: &'e Piece<'e>,
-    sought: Sought<'_>,
+    sought: &Sought<'_>,
 ) -> Result<Found, AllocError>
     requires piece { IsPiece (evaluation_shape evaluation.now) piece.now }
     requires whole { piece.now.part ≡ part.Whole }
-    requires number { sought.location < count_of (evaluation_shape evaluation.now) }
-    ensures { let l = location_at (evaluation_shape evaluation.now) sought.location in
-        IfOk result (IsFound sought.most (stands_at evaluation.now l sought.given.now piece.now.frame piece.now.path (rule_of piece.now.rule.now))) }
+    requires number { sought.now.location < count_of (evaluation_shape evaluation.now) }
+    ensures { let l = location_at (evaluation_shape evaluation.now) sought.now.location in
+        IfOk result (IsFound sought.now.most (stands_at evaluation.now l sought.now.given.now piece.now.frame piece.now.path (rule_of piece.now.rule.now))) }
 {
     opening_laws::<P>();
     let cut = whole_cut(evaluation.view.signature, piece.rule);
@@ -61,7 +61,7 @@ pub fn standing_in<'e, P: Picks>(
                     given: given.as_slice(),
                     most: all.room(sought.most),
                 };
-                let found = standing_in(alloc, evaluation, &pieces[i], room)?;
+                let found = standing_in(alloc, evaluation, &pieces[i], &room)?;
                 all.append(found)?;
             }
             Ok(all)
@@ -73,7 +73,9 @@ pub fn standing_in<'e, P: Picks>(
             RuleCode::Seq(parts) => {
                 standing_in_order(alloc, evaluation, frame, parts.as_slice(), path, sought)
             }
-            RuleCode::Iterate(body) => standing_in_turns(alloc, evaluation, frame, body, path, sought),
+            RuleCode::Iterate(body) => standing_in_turns(
+                alloc, evaluation, frame, body, path, sought,
+            ),
             _ => Ok(Found::none(alloc)),
         },
     }
@@ -87,13 +89,13 @@ fn standing_in_order<'e, P: Picks>(
     frame: &'e Frame<'e>,
     parts: &'e [RuleCode],
     path: &[u64],
-    sought: Sought<'_>,
+    sought: &Sought<'_>,
 ) -> Result<Found, AllocError>
     requires sound { AreSoundRules (evaluation_shape evaluation.now) (rules_of (map rule_of parts.now)) }
     requires framed { IsSoundFrame (evaluation_shape evaluation.now) frame.now }
-    requires number { sought.location < count_of (evaluation_shape evaluation.now) }
-    ensures { let l = location_at (evaluation_shape evaluation.now) sought.location in
-        IfOk result (IsFound sought.most (order_in evaluation.now l sought.given.now frame.now path.now 0 (rules_of (map rule_of parts.now)) (evaluation_state evaluation.now))) }
+    requires number { sought.now.location < count_of (evaluation_shape evaluation.now) }
+    ensures { let l = location_at (evaluation_shape evaluation.now) sought.now.location in
+        IfOk result (IsFound sought.now.most (order_in evaluation.now l sought.now.given.now frame.now path.now 0 (rules_of (map rule_of parts.now)) (evaluation_state evaluation.now))) }
 {
     let mut so_far = Summary::new(alloc, evaluation.view.signature.count());
     let mut found = Found::none(alloc);
@@ -129,13 +131,13 @@ fn standing_in_turns<'e, P: Picks>(
     frame: &'e Frame<'e>,
     body: &'e RuleCode,
     path: &[u64],
-    sought: Sought<'_>,
+    sought: &Sought<'_>,
 ) -> Result<Found, AllocError>
     requires sound { IsSoundRule (evaluation_shape evaluation.now) (rule_of body.now) }
     requires framed { IsSoundFrame (evaluation_shape evaluation.now) frame.now }
-    requires number { sought.location < count_of (evaluation_shape evaluation.now) }
-    ensures { let l = location_at (evaluation_shape evaluation.now) sought.location in
-        IfOk result (IsFound sought.most (stands_at evaluation.now l sought.given.now frame.now path.now (tree.Iterate (rule_of body.now)))) }
+    requires number { sought.now.location < count_of (evaluation_shape evaluation.now) }
+    ensures { let l = location_at (evaluation_shape evaluation.now) sought.now.location in
+        IfOk result (IsFound sought.now.most (stands_at evaluation.now l sought.now.given.now frame.now path.now (tree.Iterate (rule_of body.now)))) }
 {
     let mut so_far = Summary::new(alloc, evaluation.view.signature.count());
     let mut found = Found::none(alloc);
@@ -172,21 +174,21 @@ fn standing_next<'e, P: Picks>(
     rule: &'e RuleCode,
     path: &[u64],
     number: u64,
-    sought: Sought<'_>,
+    sought: &Sought<'_>,
     so_far: &mut Summary,
     found: &mut Found,
 ) -> Result<Option<PartSet>, AllocError>
     requires sound { IsSoundRule (evaluation_shape evaluation.now) (rule_of rule.now) }
     requires framed { IsSoundFrame (evaluation_shape evaluation.now) frame.now }
-    requires number { sought.location < count_of (evaluation_shape evaluation.now) }
+    requires number { sought.now.location < count_of (evaluation_shape evaluation.now) }
     requires so_far { so_far.old.count ≡ count_of (evaluation_shape evaluation.now) }
     ensures count { so_far.new.count ≡ so_far.old.count }
     ensures next { let p = yields.at path.now number in
-        let l = location_at (evaluation_shape evaluation.now) sought.location in
-        IfOk result (λ part. (U : UpdateSet) (before : List Detailed) → Stands (evaluation_shape evaluation.now) so_far.old U → IsConsistent U → IsFound sought.most before found.old →
-        (now : List Detailed) × IsFound sought.most now found.new ×
+        let l = location_at (evaluation_shape evaluation.now) sought.now.location in
+        IfOk result (λ part. (U : UpdateSet) (before : List Detailed) → Stands (evaluation_shape evaluation.now) so_far.old U → IsConsistent U → IsFound sought.now.most before found.old →
+        (now : List Detailed) × IsFound sought.now.most now found.new ×
         IsNext (evaluation_shape evaluation.now) U (rule_upon evaluation.now U frame.now p (rule_of rule.now)).result
-        (stands_in evaluation.now l sought.given.now frame.now p (rule_of rule.now) (fire (evaluation_state evaluation.now) U)) before now so_far.new part) }
+        (stands_in evaluation.now l sought.now.given.now frame.now p (rule_of rule.now) (fire (evaluation_state evaluation.now) U)) before now so_far.new part) }
 {
     let path = Path::below(alloc, path, number)?;
     let piece = Piece {

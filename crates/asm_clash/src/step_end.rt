@@ -35,10 +35,7 @@ pub enum StepEnd {
     /// No set: the `iterate` at this path has made its last turn.
     Exhausted(Path),
     /// A set with this first fault, and the first assignments whose updates stand at its location.
-    Faulty {
-        fault: Fault,
-        found: Found,
-    },
+    Faulty { fault: Fault, found: Found },
 }
 
 /// The number of the location of a set's first fault.
@@ -91,7 +88,7 @@ fn step_end_in<'a, 'e>(
                     given: &[],
                     most,
                 };
-                let found = standing_in(alloc, &evaluation, &piece, sought)?;
+                let found = standing_in(alloc, &evaluation, &piece, &sought)?;
                 Ok(StepEnd::Faulty { fault, found })
             }
         },

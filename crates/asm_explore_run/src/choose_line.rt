@@ -75,11 +75,7 @@ fn push_candidates(
 }
 
 /// Adds values, with a comma between each two.
-fn push_values(
-    line: &mut Vec<u8>,
-    checked: &Checked,
-    values: &[Word],
-) -> Result<(), AllocError> {
+fn push_values(line: &mut Vec<u8>, checked: &Checked, values: &[Word]) -> Result<(), AllocError> {
     for i in 0..values.len() {
         if i > 0 {
             line.extend_from_slice(b", ")?;

@@ -70,7 +70,8 @@ fn clash_of<'w>(
         AreReadByCode tree settings.now.turns script greatest_shown (run_asked tree settings.now script) clash) }
 {
     let script = script_given(alloc, script_text, settings)?;
-    let (turns, steps) = (settings.turns, settings.steps);
+    let turns = settings.turns;
+    let steps = settings.steps;
     let clash = clash_of_run(alloc, checked, turns, &script, steps, MAX_SHOWN)?;
     Ok(clash)
 }

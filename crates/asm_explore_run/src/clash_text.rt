@@ -14,8 +14,8 @@ use asm_reader::MAX_SCRIPT;
 use asm_run::end::End;
 use std::alloc::{AllocError, Global};
 
-/// How many assignments are listed: the comments for so many don't fit into a script, since each has
-/// 15 bytes at least.
+/// How many assignments are listed: the comments for so many don't fit into a script, since each
+/// has 15 bytes at least.
 pub(crate) const MAX_SHOWN: usize = 69_906;
 
 /// Adds a comment for so many assignments that aren't shown, if there are any.
@@ -58,8 +58,8 @@ fn add_if_it_fits(
     Ok(false)
 }
 
-/// A first comment, and one for each of so many assignments by which a run ends, as many as fit into
-/// a script; these are the first of them.
+/// A first comment, and one for each of so many assignments by which a run ends, as many as fit
+/// into a script; these are the first of them.
 pub(crate) fn clash_text(
     alloc: Global,
     text: &[u8],

@@ -1,4 +1,3 @@
-use Rattle.std.proofs.Common.{◌≡◌}
 use Rattle.asm_clash.proofs.assigned.assignment.Goals as goal
 
 pub returns : goal.returns

@@ -1,4 +1,4 @@
-use Rattle.std.proofs.Common.{◌≡◌, ◌∙◌, ◌++◌, ap}
+use Rattle.std.proofs.Common.{◌∙◌, ◌++◌, ap}
 use Rattle.asm_clash.specs.code.StandingRules.{bound_in}
 use Rattle.asm_clash.proofs.FrameValues.{bound_here}
 use Rattle.asm_clash.proofs.bound_values.values_bound.Goals as goal

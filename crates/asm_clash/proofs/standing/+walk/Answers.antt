@@ -1,4 +1,4 @@
-use Rattle.std.proofs.Common.{rules, ◌≡◌, ◌<◌, ◌∙◌, ◌++◌, [], Some, length, map, ap, sym, subst, refl, arith}
+use Rattle.std.proofs.Common.{rules, ◌<◌, ◌∙◌, ◌++◌, ◌-◌, [], Some, length, map, ap, sym, subst, refl, arith}
 use Rattle.std.specs.Prelude.{IfOk}
 use Rattle.asm_state.specs.Signature.{location_at}
 use Rattle.asm_state.specs.Updates.{fire}
@@ -14,7 +14,7 @@ use Rattle.asm_clash.specs.Standing.{later}
 use Rattle.asm_clash.specs.code.FirstFound.{IsFound}
 use Rattle.asm_clash.specs.code.StandingCodes.{standing}
 use Rattle.asm_clash.specs.code.StandingRules.{stands_at}
-use Rattle.asm_clash.proofs.ClosedRules.{assign_here, seq_here, other_here, closed_here, last_piece, next_piece, pieces_here, piece_here, sound_part, size_of_part}
+use Rattle.asm_clash.proofs.ClosedRules.{assign_here, seq_here, other_here, closed_here, next_piece, pieces_here, piece_here, sound_part, size_of_part}
 use Rattle.asm_clash.proofs.OpenedRules.{works_stand}
 use Rattle.asm_clash.proofs.NextParts.{next_set}
 use Rattle.asm_clash.proofs.StandingSequences.{order_begin, order_none, order_off, order_on, order_finish, turns_start, turn_none, turn_off, turn_on}
@@ -27,23 +27,23 @@ standing_in-loop-i-init g t c =
     let a = c.args in
     let r = a.evaluation.now in
     let shape = evaluation_shape r in
-    let l = location_at shape a.sought.location in
-    let gs = a.sought.given.now in
+    let l = location_at shape a.sought.now.location in
+    let gs = a.sought.now.given.now in
     let pieces = c.in-Pieces.pieces in (
       [],
-      c.none-all.ensures a.sought.most,
+      c.none-all.ensures a.sought.now.most,
       (pieces_here r a.piece.now c.requires.whole _ _ c.in_ok-pieces.ensures l gs pieces c.in-Pieces.instances c.in-Pieces.is c.whole_cut-cut.ensures.whole).0
-          ∙ ap (λ given. works_stand shape r.turns (evaluation_choices r) l (evaluation_state r) given (map (work_of shape) pieces.items)) (sym c.in_ok-given.ensures),
+          ∙ ap (λ given. works_stand shape r.turns (evaluation_choices r) l (evaluation_state r) given (map (work_of shape) pieces.items)) (sym c.in_ok-given-in-Pieces.ensures),
     )
 
 pub standing_in-standing_in-requires : goal.standing_in-standing_in-requires
 standing_in-standing_in-requires g t c κs within =
     let a = c.args in
     let r = a.evaluation.now in
-    let l = location_at (evaluation_shape r) a.sought.location in
+    let l = location_at (evaluation_shape r) a.sought.now.location in
     let pieces = c.in-Pieces.pieces in
     let low : c.loop-i.i < length pieces.items = omega (arith, c.loop-i-test.true, c.len-i-end.ensures, pieces.ok) in
-    let one = piece_here r a.piece.now c.requires.whole _ _ c.in_ok-pieces.ensures l a.sought.given.now pieces c.in-Pieces.instances c.in-Pieces.is c.whole_cut-cut.ensures.whole c.loop-i.i c.index.result.now low c.index.ensures in
+    let one = piece_here r a.piece.now c.requires.whole _ _ c.in_ok-pieces.ensures l a.sought.now.given.now pieces c.in-Pieces.instances c.in-Pieces.is c.whole_cut-cut.ensures.whole c.loop-i.i c.index.result.now low c.index.ensures in
     (omega (arith, c.decreases, one.0), (search rules, (one.1, (one.2, c.requires.number))))
 
 pub standing_in-loop-i-preserved : goal.standing_in-loop-i-preserved
@@ -51,39 +51,33 @@ standing_in-loop-i-preserved g t c =
     let a = c.args in
     let r = a.evaluation.now in
     let shape = evaluation_shape r in
-    let l = location_at shape a.sought.location in
+    let l = location_at shape a.sought.now.location in
     let i = c.loop-i in
     let pieces = c.in-Pieces.pieces in
-    let low : i.i < length pieces.items = omega (arith, i.test.true, c.len-i-end.ensures, pieces.ok) in
-    let whole = stands_at r l a.sought.given.now a.piece.now.frame a.piece.now.path (rule_of a.piece.now.rule.now) in
+    let low : i.i < length pieces.items = omega (arith, c.loop-i-test.true, c.len-i-end.ensures, pieces.ok) in
+    let whole = stands_at r l a.sought.now.given.now a.piece.now.frame a.piece.now.path (rule_of a.piece.now.rule.now) in
     let x = c.index.result.now in
-    let own = stands_at r l i.given.items x.frame x.path (rule_of x.rule.now) in (
+    let given = c.in_ok-given-in-Pieces.given.items in
+    let found = c.in_ok-found-in-Pieces.found in
+    let room = a.sought.now.most - length i.all.first.items in
+    let own = stands_at r l given x.frame x.path (rule_of x.rule.now) in
+    let listed = stands_at r l c.as_slice.result.now x.frame x.path (rule_of x.rule.now) in
+    let kept : IsFound room listed found = subst (λ k. IsFound k listed found) c.room.ensures c.in_ok-found-in-Pieces.ensures in
+    let kept_own : IsFound room own found =
+    subst (λ ws. IsFound room (stands_at r l ws x.frame x.path (rule_of x.rule.now)) found) c.as_slice.ensures.value kept in (
       i.invariant.0 ++ own,
-      c.in_ok-append.ensures a.sought.most i.invariant.0 own i.invariant.1
-          (subst (λ k. IsFound k own c.in_ok-found.found) c.room.ensures c.in_ok-found.ensures),
-      next_piece r l i.given.items pieces.items a.sought.most whole i.invariant.0 i.i x low c.index.ensures i.invariant.2,
+      c.in_ok-append-in-Pieces.ensures a.sought.now.most i.invariant.0 own i.invariant.1 kept_own,
+      next_piece r l given pieces.items a.sought.now.most whole i.invariant.0 i.i x low c.index.ensures i.invariant.2,
     )
-
-pub standing_in-returns-in-Pieces : goal.standing_in-returns-in-Pieces
-standing_in-returns-in-Pieces g t c =
-    let a = c.args in
-    let r = a.evaluation.now in
-    let shape = evaluation_shape r in
-    let l = location_at shape a.sought.location in
-    let i = c.loop-i in
-    let pieces = c.in-Pieces.pieces in
-    let whole = stands_at r l a.sought.given.now a.piece.now.frame a.piece.now.path (rule_of a.piece.now.rule.now) in
-    subst (λ xs. IsFound a.sought.most xs i.all)
-    (last_piece r l i.given.items pieces.items a.sought.most whole i.invariant.0 i.i (omega (arith, c.loop-i-test.false, c.len-i-end.ensures, pieces.ok)) i.invariant.2) i.invariant.1
 
 pub standing_in-returns-in-Assign : goal.standing_in-returns-in-Assign
 standing_in-returns-in-Assign g t c =
     let a = c.args in
     let r = a.evaluation.now in
     let shape = evaluation_shape r in
-    let l = location_at shape a.sought.location in
-    subst (λ xs. IfOk c.assigned.result (IsFound a.sought.most xs))
-    (assign_here shape r.turns (evaluation_choices r) l (readings_of shape a.piece.now.frame) (frame_locations shape a.piece.now.frame) a.sought.given.now (evaluation_state r) a.piece.now.path c.as_slice-path.result.now c.as_slice-path.ensures
+    let l = location_at shape a.sought.now.location in
+    subst (λ xs. IfOk c.assigned.result (IsFound a.sought.now.most xs))
+    (assign_here shape r.turns (evaluation_choices r) l (readings_of shape a.piece.now.frame) (frame_locations shape a.piece.now.frame) a.sought.now.given.now (evaluation_state r) a.piece.now.path c.as_slice-path.result.now c.as_slice-path.ensures
     a.piece.now.rule.now c.in-Assign.place c.in-Assign.value c.in-Assign.is)
     c.assigned.ensures
 
@@ -92,10 +86,10 @@ standing_in-returns-in-Seq g t c =
     let a = c.args in
     let r = a.evaluation.now in
     let shape = evaluation_shape r in
-    let l = location_at shape a.sought.location in
-    subst (λ xs. IfOk c.standing_in_order.result (IsFound a.sought.most xs))
-    (seq_here shape r.turns (evaluation_choices r) l (readings_of shape a.piece.now.frame) (frame_locations shape a.piece.now.frame) a.sought.given.now (evaluation_state r) a.piece.now.path c.as_slice-path.result.now c.as_slice-path.ensures
-    a.piece.now.rule.now c.in-Seq.parts c.in-Seq.is c.as_slice.result.now c.as_slice.ensures.value)
+    let l = location_at shape a.sought.now.location in
+    subst (λ xs. IfOk c.standing_in_order.result (IsFound a.sought.now.most xs))
+    (seq_here shape r.turns (evaluation_choices r) l (readings_of shape a.piece.now.frame) (frame_locations shape a.piece.now.frame) a.sought.now.given.now (evaluation_state r) a.piece.now.path c.as_slice-path.result.now c.as_slice-path.ensures
+    a.piece.now.rule.now c.in-Seq.parts c.in-Seq.is c.as_slice-in-Seq.result.now c.as_slice-in-Seq.ensures.value)
     c.standing_in_order.ensures
 
 pub standing_in-returns-in_default : goal.standing_in-returns-in_default
@@ -103,12 +97,12 @@ standing_in-returns-in_default g t c =
     let a = c.args in
     let r = a.evaluation.now in
     let shape = evaluation_shape r in
-    let l = location_at shape a.sought.location in
+    let l = location_at shape a.sought.now.location in
     let closed = closed_here r a.piece.now c.requires.whole _ _ c.in_ok-pieces.ensures (c.opening_laws.ensures r) c.requires.piece c.in-Closed.is c.whole_cut-cut.ensures.some in
-    subst (λ xs. IsFound a.sought.most xs c.none.result)
-    (other_here shape r.turns (evaluation_choices r) l (readings_of shape a.piece.now.frame) (frame_locations shape a.piece.now.frame) a.sought.given.now (evaluation_state r) a.piece.now.path a.piece.now.path refl
+    subst (λ xs. IsFound a.sought.now.most xs c.none.result)
+    (other_here shape r.turns (evaluation_choices r) l (readings_of shape a.piece.now.frame) (frame_locations shape a.piece.now.frame) a.sought.now.given.now (evaluation_state r) a.piece.now.path a.piece.now.path refl
     a.piece.now.rule.now closed c.in_default.not-Assign c.in_default.not-Seq c.in_default.not-Iterate)
-    (c.none.ensures a.sought.most)
+    (c.none.ensures a.sought.now.most)
 
 -- ---- parts in order
 
@@ -117,12 +111,12 @@ standing_in_order-loop-i-init g t c =
     let a = c.args in
     let r = a.evaluation.now in
     let shape = evaluation_shape r in
-    let l = location_at shape a.sought.location in
+    let l = location_at shape a.sought.now.location in
     record {
       counted = c.new-so_far.ensures.count ∙ c.count.ensures.count;
       stand = [];
-      kept = c.none-found.ensures a.sought.most;
-      walked = order_begin shape r.turns (evaluation_choices r) l (readings_of shape a.frame.now) (frame_locations shape a.frame.now) a.sought.given.now a.path.now (evaluation_state r) a.parts.now
+      kept = c.none-found.ensures a.sought.now.most;
+      walked = order_begin shape r.turns (evaluation_choices r) l (readings_of shape a.frame.now) (frame_locations shape a.frame.now) a.sought.now.given.now a.path.now (evaluation_state r) a.parts.now
           [] c.new-so_far.result refl (c.new-so_far.ensures.empty shape c.count.ensures.sound c.count.ensures.count);
     }
 
@@ -138,12 +132,12 @@ standing_in_order-returns-in_default g t c =
     let a = c.args in
     let r = a.evaluation.now in
     let shape = evaluation_shape r in
-    let l = location_at shape a.sought.location in
+    let l = location_at shape a.sought.now.location in
     let i = c.loop-i in
     let under = i.invariant.walked in
     let next = c.in_ok-next.ensures.next under.set i.invariant.stand under.stands under.consistent i.invariant.kept in
-    subst (λ xs. IsFound a.sought.most xs c.standing_next.new.found)
-    (order_none shape r.turns (evaluation_choices r) l (readings_of shape a.frame.now) (frame_locations shape a.frame.now) a.sought.given.now a.path.now (evaluation_state r) a.parts.now
+    subst (λ xs. IsFound a.sought.now.most xs c.standing_next.new.found)
+    (order_none shape r.turns (evaluation_choices r) l (readings_of shape a.frame.now) (frame_locations shape a.frame.now) a.sought.now.given.now a.path.now (evaluation_state r) a.parts.now
     i.i c.index-parts-i.result c.loop-i-test.true c.index-parts-i.is i.invariant.stand i.so_far under
     _ next.0 c.standing_next.new.so_far next.2 c.in_default.not-Some)
     next.1
@@ -153,12 +147,12 @@ standing_in_order-returns-then-ends_parts g t c =
     let a = c.args in
     let r = a.evaluation.now in
     let shape = evaluation_shape r in
-    let l = location_at shape a.sought.location in
+    let l = location_at shape a.sought.now.location in
     let i = c.loop-i in
     let under = i.invariant.walked in
     let next = c.in_ok-next.ensures.next under.set i.invariant.stand under.stands under.consistent i.invariant.kept in
-    subst (λ xs. IsFound a.sought.most xs c.standing_next.new.found)
-    (order_off shape r.turns (evaluation_choices r) l (readings_of shape a.frame.now) (frame_locations shape a.frame.now) a.sought.given.now a.path.now (evaluation_state r) a.parts.now
+    subst (λ xs. IsFound a.sought.now.most xs c.standing_next.new.found)
+    (order_off shape r.turns (evaluation_choices r) l (readings_of shape a.frame.now) (frame_locations shape a.frame.now) a.sought.now.given.now a.path.now (evaluation_state r) a.parts.now
     i.i c.index-parts-i.result c.loop-i-test.true c.index-parts-i.is i.invariant.stand i.so_far under
     _ next.0 c.standing_next.new.so_far next.2
     c.in-Some.part c.in-Some.is (sym c.ends_parts.ensures ∙ c.if-ends_parts.true))
@@ -169,7 +163,7 @@ standing_in_order-loop-i-preserved g t c =
     let a = c.args in
     let r = a.evaluation.now in
     let shape = evaluation_shape r in
-    let l = location_at shape a.sought.location in
+    let l = location_at shape a.sought.now.location in
     let i = c.loop-i in
     let under = i.invariant.walked in
     let next = c.in_ok-next.ensures.next under.set i.invariant.stand under.stands under.consistent i.invariant.kept in
@@ -177,7 +171,7 @@ standing_in_order-loop-i-preserved g t c =
       counted = c.in_ok-next.ensures.count ∙ i.invariant.counted;
       stand = next.0;
       kept = next.1;
-      walked = order_on shape r.turns (evaluation_choices r) l (readings_of shape a.frame.now) (frame_locations shape a.frame.now) a.sought.given.now a.path.now (evaluation_state r) a.parts.now
+      walked = order_on shape r.turns (evaluation_choices r) l (readings_of shape a.frame.now) (frame_locations shape a.frame.now) a.sought.now.given.now a.path.now (evaluation_state r) a.parts.now
           i.i c.index-parts-i.result c.loop-i-test.true c.index-parts-i.is i.invariant.stand i.so_far under
           _ next.0 c.standing_next.new.so_far next.2
           c.in-Some.part c.in-Some.is (sym c.ends_parts.ensures ∙ c.if-ends_parts.false);
@@ -188,10 +182,10 @@ standing_in_order-returns g t c =
     let a = c.args in
     let r = a.evaluation.now in
     let shape = evaluation_shape r in
-    let l = location_at shape a.sought.location in
+    let l = location_at shape a.sought.now.location in
     let i = c.loop-i in
-    subst (λ xs. IsFound a.sought.most xs i.found)
-    (order_finish shape r.turns (evaluation_choices r) l (readings_of shape a.frame.now) (frame_locations shape a.frame.now) a.sought.given.now a.path.now (evaluation_state r) a.parts.now
+    subst (λ xs. IsFound a.sought.now.most xs i.found)
+    (order_finish shape r.turns (evaluation_choices r) l (readings_of shape a.frame.now) (frame_locations shape a.frame.now) a.sought.now.given.now a.path.now (evaluation_state r) a.parts.now
     i.i i.invariant.stand i.so_far i.invariant.walked (omega (arith, c.loop-i-test.false)))
     i.invariant.kept
 
@@ -202,12 +196,12 @@ standing_in_turns-loop-turn-init g t c =
     let a = c.args in
     let r = a.evaluation.now in
     let shape = evaluation_shape r in
-    let l = location_at shape a.sought.location in
+    let l = location_at shape a.sought.now.location in
     record {
       counted = c.new-so_far.ensures.count ∙ c.count.ensures.count;
       stand = [];
-      kept = c.none-found.ensures a.sought.most;
-      walked = turns_start shape r.turns (evaluation_choices r) l (readings_of shape a.frame.now) (frame_locations shape a.frame.now) a.sought.given.now a.path.now (evaluation_state r) (rule_of a.body.now)
+      kept = c.none-found.ensures a.sought.now.most;
+      walked = turns_start shape r.turns (evaluation_choices r) l (readings_of shape a.frame.now) (frame_locations shape a.frame.now) a.sought.now.given.now a.path.now (evaluation_state r) (rule_of a.body.now)
           [] c.new-so_far.result refl (c.new-so_far.ensures.empty shape c.count.ensures.sound c.count.ensures.count);
     }
 
@@ -216,12 +210,12 @@ standing_in_turns-returns-in_default g t c =
     let a = c.args in
     let r = a.evaluation.now in
     let shape = evaluation_shape r in
-    let l = location_at shape a.sought.location in
+    let l = location_at shape a.sought.now.location in
     let i = c.loop-turn in
     let under = i.invariant.walked in
     let next = c.in_ok-next.ensures.next under.set i.invariant.stand under.stands under.consistent i.invariant.kept in
-    subst (λ xs. IsFound a.sought.most xs c.standing_next.new.found)
-    (turn_none shape r.turns (evaluation_choices r) l (readings_of shape a.frame.now) (frame_locations shape a.frame.now) a.sought.given.now a.path.now (evaluation_state r) (rule_of a.body.now)
+    subst (λ xs. IsFound a.sought.now.most xs c.standing_next.new.found)
+    (turn_none shape r.turns (evaluation_choices r) l (readings_of shape a.frame.now) (frame_locations shape a.frame.now) a.sought.now.given.now a.path.now (evaluation_state r) (rule_of a.body.now)
     i.turn c.from-number.result c.loop-turn-test.true c.from-number.ensures i.invariant.stand i.so_far under
     _ next.0 c.standing_next.new.so_far next.2 c.in_default.not-Some)
     next.1
@@ -231,12 +225,12 @@ standing_in_turns-returns-then-ends_turns g t c =
     let a = c.args in
     let r = a.evaluation.now in
     let shape = evaluation_shape r in
-    let l = location_at shape a.sought.location in
+    let l = location_at shape a.sought.now.location in
     let i = c.loop-turn in
     let under = i.invariant.walked in
     let next = c.in_ok-next.ensures.next under.set i.invariant.stand under.stands under.consistent i.invariant.kept in
-    subst (λ xs. IsFound a.sought.most xs c.standing_next.new.found)
-    (turn_off shape r.turns (evaluation_choices r) l (readings_of shape a.frame.now) (frame_locations shape a.frame.now) a.sought.given.now a.path.now (evaluation_state r) (rule_of a.body.now)
+    subst (λ xs. IsFound a.sought.now.most xs c.standing_next.new.found)
+    (turn_off shape r.turns (evaluation_choices r) l (readings_of shape a.frame.now) (frame_locations shape a.frame.now) a.sought.now.given.now a.path.now (evaluation_state r) (rule_of a.body.now)
     i.turn c.from-number.result c.loop-turn-test.true c.from-number.ensures i.invariant.stand i.so_far under
     _ next.0 c.standing_next.new.so_far next.2
     c.in-Some.part c.in-Some.is (sym c.ends_turns.ensures ∙ c.if-ends_turns.true))
@@ -247,7 +241,7 @@ standing_in_turns-loop-turn-preserved g t c =
     let a = c.args in
     let r = a.evaluation.now in
     let shape = evaluation_shape r in
-    let l = location_at shape a.sought.location in
+    let l = location_at shape a.sought.now.location in
     let i = c.loop-turn in
     let under = i.invariant.walked in
     let next = c.in_ok-next.ensures.next under.set i.invariant.stand under.stands under.consistent i.invariant.kept in
@@ -255,7 +249,7 @@ standing_in_turns-loop-turn-preserved g t c =
       counted = c.in_ok-next.ensures.count ∙ i.invariant.counted;
       stand = next.0;
       kept = next.1;
-      walked = turn_on shape r.turns (evaluation_choices r) l (readings_of shape a.frame.now) (frame_locations shape a.frame.now) a.sought.given.now a.path.now (evaluation_state r) (rule_of a.body.now)
+      walked = turn_on shape r.turns (evaluation_choices r) l (readings_of shape a.frame.now) (frame_locations shape a.frame.now) a.sought.now.given.now a.path.now (evaluation_state r) (rule_of a.body.now)
           i.turn c.from-number.result c.loop-turn-test.true c.from-number.ensures i.invariant.stand i.so_far under
           _ next.0 c.standing_next.new.so_far next.2
           c.in-Some.part c.in-Some.is (sym c.ends_turns.ensures ∙ c.if-ends_turns.false);
@@ -268,14 +262,14 @@ standing_next-returns-clause-next g t c = λ U before stands consistent kept.
     let a = c.args in
     let r = a.evaluation.now in
     let shape = evaluation_shape r in
-    let gs = a.sought.given.now in
+    let gs = a.sought.now.given.now in
     let v = c.upon-view.result in
     let upper = v.signature.now in
     let yielded = meaning upper r.turns (evaluation_choices r) (rule_of a.rule.now) (readings_of upper a.frame.now) (frame_locations upper a.frame.now) (shown v) c.in_ok-path.path in
-    let own = standing upper r.turns (evaluation_choices r) (location_at upper a.sought.location) (rule_of a.rule.now) (readings_of upper a.frame.now) (frame_locations upper a.frame.now) gs (shown v) c.in_ok-path.path in (
+    let own = standing upper r.turns (evaluation_choices r) (location_at upper a.sought.now.location) (rule_of a.rule.now) (readings_of upper a.frame.now) (frame_locations upper a.frame.now) gs (shown v) c.in_ok-path.path in (
       later before own,
-      c.put_later.ensures a.sought.most before own kept c.in_ok-own-in-Set.ensures,
-      next_set r.turns (evaluation_choices r) (rule_of a.rule.now) a.frame.now a.sought.location gs shape upper c.upon-view.ensures.signature (fire (evaluation_state r) U) (shown v) (c.upon-view.ensures.fired U stands consistent)
+      c.put_later.ensures a.sought.now.most before own kept c.in_ok-own-in-Set.ensures,
+      next_set r.turns (evaluation_choices r) (rule_of a.rule.now) a.frame.now a.sought.now.location gs shape upper c.upon-view.ensures.signature (fire (evaluation_state r) U) (shown v) (c.upon-view.ensures.fired U stands consistent)
           (at a.path.now a.number) c.in_ok-path.path c.in_ok-path.ensures
           U before (later before own) c.merge_with.new.self (Some c.of-part.result)
           c.of-part.result c.in-Set.set c.in-Set.instances own refl

@@ -1,4 +1,3 @@
-use Rattle.std.proofs.Common.{◌≡◌}
 use Rattle.asm_clash.proofs.Founds.{put_after}
 use Rattle.asm_clash.proofs.found.Found.append.Goals as goal
 
