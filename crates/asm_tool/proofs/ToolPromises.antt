@@ -1,6 +1,6 @@
 -- Free. What is written, and what a fault says, from what the result of the run says.
 use Rattle.std.proofs.Common.{◌≡◌, ◌≤◌, ◌<◌, ◌⊎◌, ◌∙◌, ℕ, true, false, List, [], Option, None, Some, append-nil, codes, inl, inr, refl, sym, subst, arith}
-use Rattle.std.specs.Prelude.{◌≢◌, ◌↔◌, ◌||◌, Bool, Err, IfErr, IfOk, IfSome, IsTrue, Ok, Result, length, option_map, take}
+use Rattle.std.specs.Prelude.{◌↔◌, ◌||◌, Bool, Err, IfErr, IfOk, IfSome, IsTrue, Ok, Result, length, option_map, take}
 use Rattle.std.proofs.lemmas.Bool.{cases_lt}
 use Rattle.std.proofs.lemmas.List.{take_all}
 use Rattle.std.specs.Io.KnownBytes.{Appends, Keeps}
