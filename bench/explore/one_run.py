@@ -108,16 +108,28 @@ class ToldStep(model.Step):
     def __init__(self, specification, turns, script, step):
         super().__init__(specification, turns, [])
         self.script, self.step, self.choices, self.assigned = script, step, [], 0
+        # The arguments of the target of the call whose body this is, which `result` stands for.
+        self.given = []
 
     def taken(self, rule, path, candidates):
         number = self.script.number(self.step, path) % len(candidates)
         self.choices.append(Choice(path, rule.offset, rule[1], candidates, number))
         return candidates[number]
 
+    def arguments(self, target, bound, state):
+        """Those of a target, outside the domain of its function too."""
+        if target is None:
+            return []
+        return self.given if target[0] == "result" else [self.term(argument, bound, state) for argument in target[2]]
+
+    def call_rule(self, rule, bound, state, path):
+        given, self.given = self.given, self.arguments(rule[1], bound, state)
+        result = super().call_rule(rule, bound, state, path)
+        self.given = given
+        return result
+
     def assign_rule(self, rule, bound, state, path):
-        place, value = self.place(rule[1], bound, state), self.term(rule[2], bound, state)
-        # Of `result` nothing but its location is known; the arguments of a function are, outside the domain too.
-        arguments = (place[1] or ()) if rule[1][0] == "result" else [self.term(argument, bound, state) for argument in rule[1][2]]
+        place, value, arguments = self.place(rule[1], bound, state), self.term(rule[2], bound, state), self.arguments(rule[1], bound, state)
         names = [(name, self.term(("name", name, []), bound, state)) for name in bound if name != "result"]
         self.assigned += 1
         return ("set", {place: Sources({value: [Assignment(self.assigned, path, rule.offset, (place[0], arguments), value, names)]})})

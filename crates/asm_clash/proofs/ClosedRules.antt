@@ -2,22 +2,29 @@
 -- are opened.
 --     assign_here, seq_here, other_here     what stands of an assignment, of rules in order, and of
 --                                           what is none of the closed ones but `skip`
+--     given_called, given_elsewhere     which arguments the pieces of a call are given, and those of
+--                                       another rule
 --     closed_here                           a piece that isn't opened has a rule that is closed
 --     pieces_here                           what stands of the pieces that a piece is opened to
 --     piece_here                            each of them is all of a rule with fewer nodes
+--     next_piece, last_piece     what stands of the pieces that are left
 --     sound_part, size_of_part              a part of sound rules is sound, and has no more nodes
 --                                           than all of them
-use Rattle.std.proofs.Common.{◌≡◌, ℕ, zero, suc, ◌≤◌, ◌<◌, true, List, [], ◌∷◌, length, map, get_or, All, sym, ap, subst, ◌∙◌, arith, Box, Vec, Global}
+use Rattle.std.proofs.Common.{◌≡◌, ℕ, zero, suc, ◌≤◌, ◌<◌, true, List, [], ◌∷◌, ◌++◌, ◌+◌, length, map, drop, get_or, append_assoc, append-nil, All, Option, sym, ap, subst, ◌∙◌, arith, Box, Vec, Global}
+use Rattle.std.specs.Arc.{arc_value}
+use Rattle.std.specs.Prelude.{option_map}
 use Rattle.std.proofs.lemmas.Bool.{false≢true}
+use Rattle.std.proofs.lemmas.List.{at_drop_more}
 use Rattle.std.proofs.lemmas.List.Elements.{All-get_or}
+use Rattle.std.proofs.Math.ListN.{drop_of_length-le}
 use Rattle.asm_reader.specs.declared.picks.Picks.{Ghosts}
+use Rattle.asm_state.specs.declared.value.Value.{Value}
 use Rattle.asm_state.specs.Location.{Location, State}
 use Rattle.asm_state.specs.Signature.{Shape}
 use Rattle.asm_meaning.specs.Value.{Reading}
 use Rattle.asm_meaning.specs.Yields.{Path}
 use Rattle.asm_meaning.specs.declared.part.Part.TheVariants as part
-use Rattle.asm_code.specs.code.CodeViews.{code_of}
-use Rattle.asm_code.specs.code.Readings.{reading}
+use Rattle.asm_code.specs.code.CodeViews.{code_of, codes_of}
 use Rattle.asm_code.specs.code.RuleMeaning.{IsSoundRule, AreSoundRules, Locations, target_location, rule_size, rule_sizes}
 use Rattle.asm_code.specs.code.RuleTree as tree
 use Rattle.asm_code.specs.code.RuleViews.{target_code_of, rule_of, rule_step, rules_of}
@@ -38,9 +45,9 @@ use Rattle.asm_eval.specs.declared.open.Opened.{Opened}
 use Rattle.asm_eval.specs.declared.open.Opened.TheVariants as opening
 use Rattle.asm_eval.specs.declared.piece.Piece.{Piece}
 use Rattle.asm_eval.specs.declared.evaluation.Evaluation.{Evaluation}
-use Rattle.asm_clash.specs.Standing.{Assigned}
-use Rattle.asm_clash.specs.code.StandingCodes.{assigned_at, order_stands, parts_of, standing}
-use Rattle.asm_clash.specs.code.StandingRules.{stands_at}
+use Rattle.asm_clash.specs.code.BoundValues.{Detailed}
+use Rattle.asm_clash.specs.code.StandingCodes.{assigned_at, detail, order_stands, parts_of, standing}
+use Rattle.asm_clash.specs.code.StandingRules.{given_below, given_by, stands_at}
 use Rattle.asm_clash.proofs.OpenedRules.{AreBelow, AreOpened, rule_opened, works_stand}
 
 -- ---- the tree of a code
@@ -74,26 +81,55 @@ module _ (R : RuleCode) (closed : is_closed (rule_of R) ≡ true) where
     is_skip : rule_of R ≡ tree.Skip
     is_skip = at_layer (out-RuleCode R) (sym (roll-out-RuleCode R))
 
+-- ---- what it gives its pieces
+
+call_form : (R : RuleCode) (body : _) (to : Option TargetCode) (ts : Vec Code Global) → R ≡ code.Call body to ts
+    → rule_of R ≡ tree.Call (rule_of (arc_value body)) (option_map target_code_of to) (codes_of (map code_of ts.items))
+call_form R body to ts is = ap rule_of is ∙ ap rule_of (sym (code.rolls-Call body to ts)) ∙ fold-roll-RuleCode tree.RuleCode rule_step (opened_code.Call body to ts)
+
+module _ (gs : List Value) (of_target : Option tree.Place → List Value) (R : RuleCode) where
+  pub given_called : (body : _) (to : Option TargetCode) (ts : Vec Code Global) → R ≡ code.Call body to ts → of_target (option_map target_code_of to) ≡ given_by (rule_of R) gs of_target
+  given_called body to ts is = sym (ap (λ S. given_by S gs of_target) (call_form R body to ts is))
+
+  module _ (no_call : (body : _) (to : Option TargetCode) (ts : Vec Code Global) → R ≡ code.Call body to ts → ⊥) where
+    by_layer : (L : RuleCode-F RuleCode) (S : tree.RuleCode) → rule_of (roll-RuleCode L) ≡ S → R ≡ roll-RuleCode L → given_by S gs of_target ≡ given_by (rule_of R) gs of_target
+    by_layer L S form e = sym (ap (λ T. given_by T gs of_target) (ap rule_of e ∙ form))
+
+    given_at_layer : (L : RuleCode-F RuleCode) → R ≡ roll-RuleCode L → gs ≡ given_by (rule_of R) gs of_target
+    given_at_layer opened_code.Skip e = by_layer opened_code.Skip _ (fold-roll-RuleCode tree.RuleCode rule_step opened_code.Skip) e
+    given_at_layer (opened_code.Assign to t) e = by_layer (opened_code.Assign to t) _ (fold-roll-RuleCode tree.RuleCode rule_step (opened_code.Assign to t)) e
+    given_at_layer (opened_code.Par Ps) e = by_layer (opened_code.Par Ps) _ (fold-roll-RuleCode tree.RuleCode rule_step (opened_code.Par Ps)) e
+    given_at_layer (opened_code.Seq Ps) e = by_layer (opened_code.Seq Ps) _ (fold-roll-RuleCode tree.RuleCode rule_step (opened_code.Seq Ps)) e
+    given_at_layer (opened_code.If c P Q) e = by_layer (opened_code.If c P Q) _ (fold-roll-RuleCode tree.RuleCode rule_step (opened_code.If c P Q)) e
+    given_at_layer (opened_code.Let t P) e = by_layer (opened_code.Let t P) _ (fold-roll-RuleCode tree.RuleCode rule_step (opened_code.Let t P)) e
+    given_at_layer (opened_code.Forall u c P) e = by_layer (opened_code.Forall u c P) _ (fold-roll-RuleCode tree.RuleCode rule_step (opened_code.Forall u c P)) e
+    given_at_layer (opened_code.Choose u c P Q) e = by_layer (opened_code.Choose u c P Q) _ (fold-roll-RuleCode tree.RuleCode rule_step (opened_code.Choose u c P Q)) e
+    given_at_layer (opened_code.Iterate P) e = by_layer (opened_code.Iterate P) _ (fold-roll-RuleCode tree.RuleCode rule_step (opened_code.Iterate P)) e
+    given_at_layer (opened_code.Call body to ts) e = absurd (no_call body to ts (e ∙ code.rolls-Call body to ts))
+
+    pub given_elsewhere : gs ≡ given_by (rule_of R) gs of_target
+    given_elsewhere = given_at_layer (out-RuleCode R) (sym (roll-out-RuleCode R))
+
 -- ---- what stands of it
 
-module _ (shape : Shape) (turns : ℕ) (chosen : Path → ℕ) (l : Location) (rs : List Reading) (ls : Locations) (A : State) (p q : Path) (same : q ≡ p) where
-  abbrev stands : tree.RuleCode → List Assigned
-  stands R = standing shape turns chosen l R rs ls A p
+module _ (shape : Shape) (turns : ℕ) (chosen : Path → ℕ) (l : Location) (rs : List Reading) (ls : Locations) (gs : List Value) (A : State) (p q : Path) (same : q ≡ p) where
+  abbrev stands : tree.RuleCode → List Detailed
+  stands R = standing shape turns chosen l R rs ls gs A p
 
   pub assign_here : (R : RuleCode) (to : TargetCode) (t : Code) → R ≡ code.Assign to t
-      → assigned_at l (target_location shape (target_code_of to) rs ls A) (reading shape (code_of t) rs A) q ≡ stands (rule_of R)
+      → assigned_at l (target_location shape (target_code_of to) rs ls A) (detail shape (target_code_of to) (code_of t) rs ls gs A q) ≡ stands (rule_of R)
   unfolding standing
-  assign_here R to t is = ap (assigned_at l (target_location shape (target_code_of to) rs ls A) (reading shape (code_of t) rs A)) same ∙ sym (ap stands (assign_form R to t is))
+  assign_here R to t is = ap (λ x. assigned_at l (target_location shape (target_code_of to) rs ls A) (detail shape (target_code_of to) (code_of t) rs ls gs A x)) same ∙ sym (ap stands (assign_form R to t is))
 
   pub seq_here : (R : RuleCode) (Ps : Vec RuleCode Global) → R ≡ code.Seq Ps → (Qs : List RuleCode) → Qs ≡ Ps.items
-      → order_stands (parts_of shape turns chosen l (rules_of (map rule_of Qs)) rs ls) 0 A q ≡ stands (rule_of R)
+      → order_stands (parts_of shape turns chosen l (rules_of (map rule_of Qs)) rs ls gs) 0 A q ≡ stands (rule_of R)
   unfolding standing
   seq_here R Ps is Qs all =
-      (λ i. order_stands (parts_of shape turns chosen l (rules_of (map rule_of (all i))) rs ls) 0 A (same i)) ∙ sym (ap stands (seq_form R Ps is))
+      (λ i. order_stands (parts_of shape turns chosen l (rules_of (map rule_of (all i))) rs ls gs) 0 A (same i)) ∙ sym (ap stands (seq_form R Ps is))
 
   pub iterate_here : (R : RuleCode) (Q : Box RuleCode Global) → R ≡ code.Iterate Q → (S : RuleCode) → S ≡ Q.value
-      → standing shape turns chosen l (tree.Iterate (rule_of S)) rs ls A q ≡ stands (rule_of R)
-  iterate_here R Q is S all = (λ i. standing shape turns chosen l (tree.Iterate (rule_of (all i))) rs ls A (same i)) ∙ sym (ap stands (iterate_form R Q is))
+      → standing shape turns chosen l (tree.Iterate (rule_of S)) rs ls gs A q ≡ stands (rule_of R)
+  iterate_here R Q is S all = (λ i. standing shape turns chosen l (tree.Iterate (rule_of (all i))) rs ls gs A (same i)) ∙ sym (ap stands (iterate_form R Q is))
 
   pub other_here : (R : RuleCode) → is_closed (rule_of R) ≡ true
       → ((to : TargetCode) (t : Code) → R ≡ code.Assign to t → ⊥) → ((Ps : Vec RuleCode Global) → R ≡ code.Seq Ps → ⊥) → ((P : Box RuleCode Global) → R ≡ code.Iterate P → ⊥)
@@ -110,19 +146,22 @@ module _ {P : Type 0} {picks : Ghosts P} (r : Evaluation P picks) (piece : Piece
       subst (Gives r cut (is_closed_part (rule_of piece.rule.now) piece.part) (piece_yields r piece)) none (laws.loses_nothing cut piece o some is opens) in
       subst (λ its. is_closed_part (rule_of piece.rule.now) its ≡ true) whole closed
 
-  module _ (l : Location) (pieces : Vec Piece Global) (n : ℕ) (is : o ≡ opening.Pieces pieces n) (long : HasAtMost (all_positions (evaluation_shape r) (rule_of piece.rule.now)) cut) where
-    abbrev all : List Assigned
-    all = stands_at r l piece.frame piece.path (rule_of piece.rule.now)
+  module _ (l : Location) (gs : List Value) (pieces : Vec Piece Global) (n : ℕ) (is : o ≡ opening.Pieces pieces n) (long : HasAtMost (all_positions (evaluation_shape r) (rule_of piece.rule.now)) cut) where
+    abbrev all : List Detailed
+    all = stands_at r l gs piece.frame piece.path (rule_of piece.rule.now)
+
+    abbrev below_given : List Value
+    below_given = given_below r.view.now piece.frame gs (rule_of piece.rule.now)
 
     abbrev size : ℕ
     size = rule_size (rule_of piece.rule.now)
 
-    pub pieces_here : (all ≡ works_stand (evaluation_shape r) r.turns (evaluation_choices r) l (evaluation_state r) (map (work_of (evaluation_shape r)) pieces.items)) × AreBelow size (map (work_of (evaluation_shape r)) pieces.items)
+    pub pieces_here : (all ≡ works_stand (evaluation_shape r) r.turns (evaluation_choices r) l (evaluation_state r) below_given (map (work_of (evaluation_shape r)) pieces.items)) × AreBelow size (map (work_of (evaluation_shape r)) pieces.items)
     pieces_here =
-        let found = rule_opened (evaluation_shape r) r.turns (evaluation_choices r) l (evaluation_state r) cut (rule_of piece.rule.now) (readings_of (evaluation_shape r) piece.frame) (frame_locations (evaluation_shape r) piece.frame) piece.path long in
-        let at_part = subst (λ its. AreOpened (evaluation_shape r) r.turns (evaluation_choices r) l (evaluation_state r) size all (part_opened (evaluation_shape r) (evaluation_state r) (evaluation_choices r) cut (rule_of piece.rule.now) (readings_of (evaluation_shape r) piece.frame) (frame_locations (evaluation_shape r) piece.frame) piece.path its)) (sym whole) found in
-        let at_opened = subst (AreOpened (evaluation_shape r) r.turns (evaluation_choices r) l (evaluation_state r) size all) (sym opens.works) at_part in
-        subst (λ (x : Opened). AreOpened (evaluation_shape r) r.turns (evaluation_choices r) l (evaluation_state r) size all (works_in (evaluation_shape r) x)) is at_opened
+        let found = rule_opened (evaluation_shape r) r.turns (evaluation_choices r) l (evaluation_state r) gs cut (rule_of piece.rule.now) (readings_of (evaluation_shape r) piece.frame) (frame_locations (evaluation_shape r) piece.frame) piece.path long in
+        let at_part = subst (λ its. AreOpened (evaluation_shape r) r.turns (evaluation_choices r) l (evaluation_state r) below_given size all (part_opened (evaluation_shape r) (evaluation_state r) (evaluation_choices r) cut (rule_of piece.rule.now) (readings_of (evaluation_shape r) piece.frame) (frame_locations (evaluation_shape r) piece.frame) piece.path its)) (sym whole) found in
+        let at_opened = subst (AreOpened (evaluation_shape r) r.turns (evaluation_choices r) l (evaluation_state r) below_given size all) (sym opens.works) at_part in
+        subst (λ (x : Opened). AreOpened (evaluation_shape r) r.turns (evaluation_choices r) l (evaluation_state r) below_given size all (works_in (evaluation_shape r) x)) is at_opened
 
     below_at : (those : List Piece) (i : ℕ) (x : Piece) → i < length those → x ≡ get_or those i x → AreBelow size (map (work_of (evaluation_shape r)) those)
         → (rule_size (rule_of x.rule.now) < size) × (x.part ≡ part.Whole)
@@ -137,6 +176,29 @@ module _ {P : Type 0} {picks : Ghosts P} (r : Evaluation P picks) (piece : Piece
         let below = below_at pieces.items i x low at pieces_here.1 in
         let those : All (IsPiece (evaluation_shape r)) pieces.items = subst (λ (x : Opened). All (IsPiece (evaluation_shape r)) (pieces_in x)) is opens.are_pieces in
         (below.0, subst (IsPiece (evaluation_shape r)) (sym at) (All-get_or (IsPiece (evaluation_shape r)) pieces.items i x low those), below.1)
+
+-- ---- from piece to piece
+
+module _ {P : Type 0} {picks : Ghosts P} (r : Evaluation P picks) (l : Location) (gs : List Value) (those : List Piece) (most : ℕ) (whole first : List Detailed) where
+  abbrev pub pieces_left : ℕ → List Detailed
+  pieces_left i = works_stand (evaluation_shape r) r.turns (evaluation_choices r) l (evaluation_state r) gs (map (work_of (evaluation_shape r)) (drop i those))
+
+  abbrev piece_stands : Piece → List Detailed
+  piece_stands x = stands_at r l gs x.frame x.path (rule_of x.rule.now)
+
+  pub next_piece : (i : ℕ) (x : Piece) → i < length those → x ≡ get_or those i x → whole ≡ first ++ pieces_left i → whole ≡ (first ++ piece_stands x) ++ pieces_left (i + 1)
+  next_piece i x low is so_far =
+      so_far
+      ∙ ap (λ more. first ++ more)
+      (at_drop_more (λ (some : List Piece). works_stand (evaluation_shape r) r.turns (evaluation_choices r) l (evaluation_state r) gs (map (work_of (evaluation_shape r)) some)) those i x low
+      ∙ ap (λ (y : Piece). piece_stands y ++ pieces_left (i + 1)) (sym is))
+      ∙ sym (append_assoc first (piece_stands x) (pieces_left (i + 1)))
+
+  pub last_piece : (i : ℕ) → length those ≤ i → whole ≡ first ++ pieces_left i → first ≡ whole
+  last_piece i past so_far =
+      sym (so_far
+      ∙ ap (λ (some : List Piece). first ++ works_stand (evaluation_shape r) r.turns (evaluation_choices r) l (evaluation_state r) gs (map (work_of (evaluation_shape r)) some)) (drop_of_length-le those past)
+      ∙ append-nil first)
 
 -- ---- parts
 

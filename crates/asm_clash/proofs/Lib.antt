@@ -1,3 +1,5 @@
+pub mod Founds
+pub mod FrameValues
 pub mod StandingSets
 pub mod StandingTold
 pub mod OpenedRules

@@ -22,32 +22,33 @@ use Rattle.asm_code.specs.code.RuleMeaning.{Locations, passes, passing, rule_siz
 use Rattle.asm_code.specs.code.RuleTree.{RuleCode, Skip, Assign, Par, Seq, If, Let, Forall, Choose, Iterate, Call, RuleCodes, no_rules, rule_then}
 use Rattle.asm_eval.specs.code.Opening.{Work, all_of, body_works, choice_works, counted_works, one_work, part_of, part_works, rule_works, span_works, spans}
 use Rattle.asm_eval.specs.code.Pieces.{HasAtMost, all_positions}
-use Rattle.asm_clash.specs.Standing.{Assigned}
+use Rattle.asm_clash.specs.code.BoundValues.{Detailed, optional_arguments}
 use Rattle.asm_clash.specs.code.StandingCodes.{each_stands, one_stands, parts_of, parts_stand, standing}
+use Rattle.asm_clash.specs.code.StandingRules.{given_by}
 
 abbrev pub AreBelow : (size : ℕ) → List Work → Type 0
 AreBelow size [] = Unit {0}
 AreBelow size (w ∷ works) = (rule_size w.rule < size) × (w.part ≡ part.Whole) × AreBelow size works
 
-module _ (shape : Shape) (turns : ℕ) (chosen : Path → ℕ) (l : Location) (A : State) where
-  abbrev pub work_stands : Work → List Assigned
-  work_stands w = standing shape turns chosen l w.rule w.readings w.locations A w.path
+module _ (shape : Shape) (turns : ℕ) (chosen : Path → ℕ) (l : Location) (A : State) (gs : List Value) where
+  abbrev pub work_stands : Work → List Detailed
+  work_stands w = standing shape turns chosen l w.rule w.readings w.locations gs A w.path
 
-  abbrev pub works_stand : List Work → List Assigned
+  abbrev pub works_stand : List Work → List Detailed
   works_stand [] = []
   works_stand (w ∷ works) = work_stands w ++ works_stand works
 
-  abbrev pub AreOpened : (size : ℕ) → List Assigned → Option (List Work × ℕ) → Type 0
+  abbrev pub AreOpened : (size : ℕ) → List Detailed → Option (List Work × ℕ) → Type 0
   AreOpened size all None = Unit {0}
   AreOpened size all (Some found) = (all ≡ works_stand found.0) × AreBelow size found.0
 
-  abbrev stands : RuleCode → List Reading → Locations → Path → List Assigned
-  stands R rs ls p = standing shape turns chosen l R rs ls A p
+  abbrev stands : RuleCode → List Reading → Locations → Path → List Detailed
+  stands R rs ls p = standing shape turns chosen l R rs ls gs A p
 
   one_opened : (size : ℕ) (P : RuleCode) (rs : List Reading) (ls : Locations) (p : Path) (k : ℕ) → rule_size P < size → AreOpened size (stands P rs ls (at p k)) (one_work P rs ls p k)
   one_opened size P rs ls p k low = (sym (append-nil (stands P rs ls (at p k))), (low, refl, tt))
 
-  either_opened : (size : ℕ) (b : Bool) (yes_works no_works : Option (List Work × ℕ)) (all others : List Assigned)
+  either_opened : (size : ℕ) (b : Bool) (yes_works no_works : Option (List Work × ℕ)) (all others : List Detailed)
       → AreOpened size all yes_works → AreOpened size others no_works → AreOpened size (cond b all others) (cond b yes_works no_works)
   either_opened size true yes_works no_works all others opened other = opened
   either_opened size false yes_works no_works all others opened other = other
@@ -55,12 +56,12 @@ module _ (shape : Shape) (turns : ℕ) (chosen : Path → ℕ) (l : Location) (A
   -- ---- parts
 
   parts_opened : (k : ℕ) (Ps : RuleCodes) (rs : List Reading) (ls : Locations) (p : Path)
-      → parts_stand (parts_of shape turns chosen l Ps rs ls) k A p ≡ works_stand (part_works k Ps rs ls p)
+      → parts_stand (parts_of shape turns chosen l Ps rs ls gs) k A p ≡ works_stand (part_works k Ps rs ls p)
   unfolding parts_of
   parts_opened k no_rules rs ls p = refl
   parts_opened k (rule_then P Ps) rs ls p =
       ap (λ more. stands P rs ls (at p k) ++ more)
-      (ap (λ n. parts_stand (parts_of shape turns chosen l Ps rs ls) n A p) (sym (add-one k)) ∙ parts_opened (k + 1) Ps rs ls p)
+      (ap (λ n. parts_stand (parts_of shape turns chosen l Ps rs ls gs) n A p) (sym (add-one k)) ∙ parts_opened (k + 1) Ps rs ls p)
 
   parts_below : (size k : ℕ) (Ps : RuleCodes) (rs : List Reading) (ls : Locations) (p : Path) → rule_sizes Ps < size → AreBelow size (part_works k Ps rs ls p)
   parts_below size k no_rules rs ls p low = tt
@@ -72,10 +73,10 @@ module _ (shape : Shape) (turns : ℕ) (chosen : Path → ℕ) (l : Location) (A
     abbrev bodies : ℕ → List Value → List Work
     bodies k vs = body_works shape A c P rs ls p k vs
 
-    abbrev bodies_stand : ℕ → List Value → List Assigned
+    abbrev bodies_stand : ℕ → List Value → List Detailed
     bodies_stand k vs = each_stands (λ v n. stands P (always v ∷ rs) (None ∷ ls) (at p n)) (λ v. passes shape c (always v ∷ rs) A) k vs
 
-    by_both : (b : Bool) (w : Work) (works : List Work) (all : List Assigned) → all ≡ works_stand works → cond b (work_stands w ++ all) all ≡ works_stand (cond b (w ∷ works) works)
+    by_both : (b : Bool) (w : Work) (works : List Work) (all : List Detailed) → all ≡ works_stand works → cond b (work_stands w ++ all) all ≡ works_stand (cond b (w ∷ works) works)
     by_both true w works all same = ap (λ more. work_stands w ++ more) same
     by_both false w works all same = same
 
@@ -115,18 +116,29 @@ module _ (shape : Shape) (turns : ℕ) (chosen : Path → ℕ) (l : Location) (A
         ap (λ b. cond b (counted_works (bodies c P rs ls p 0 (between 0 (length us) us))) (to_spans u c P rs ls p)) short ∙ ap (λ vs. counted_works (bodies c P rs ls p 0 vs)) all in
         subst (AreOpened size (bodies_stand c P rs ls p 0 us)) (sym same) (bodies_opened c P rs ls p 0 us, bodies_below c P rs ls p size 0 us low)
 
+-- ---- a rule, with the arguments that its pieces are given
+
+module _ (shape : Shape) (turns : ℕ) (chosen : Path → ℕ) (l : Location) (A : State) (gs : List Value) where
+  abbrev stands_with : RuleCode → List Reading → Locations → Path → List Detailed
+  stands_with R rs ls p = standing shape turns chosen l R rs ls gs A p
+
+  -- what gs is for its pieces
+  abbrev pub given_for : RuleCode → List Reading → List Value
+  given_for R rs = given_by R gs (λ to. optional_arguments shape to rs gs A)
+
+  module _ (cut : ℕ) where
     pub rule_opened : (R : RuleCode) (rs : List Reading) (ls : Locations) (p : Path) → HasAtMost (all_positions shape R) cut
-        → AreOpened (rule_size R) (stands R rs ls p) (rule_works shape A chosen cut R rs ls p)
+        → AreOpened shape turns chosen l A (given_for R rs) (rule_size R) (stands_with R rs ls p) (rule_works shape A chosen cut R rs ls p)
     unfolding standing
     rule_opened Skip rs ls p long = tt
     rule_opened (Assign to t) rs ls p long = tt
     rule_opened (Seq Ps) rs ls p long = tt
     rule_opened (Iterate P) rs ls p long = tt
-    rule_opened (Par Ps) rs ls p long = (parts_opened 0 Ps rs ls p, parts_below (rule_size (Par Ps)) 0 Ps rs ls p (omega arith))
+    rule_opened (Par Ps) rs ls p long = (parts_opened shape turns chosen l A gs 0 Ps rs ls p, parts_below shape turns chosen l A gs (rule_size (Par Ps)) 0 Ps rs ls p (omega arith))
     rule_opened (If c P Q) rs ls p long =
-        either_opened (rule_size (If c P Q)) (is_true (reading shape c rs A)) (one_work P rs ls p 0) (one_work Q rs ls p 1) _ _
-        (one_opened (rule_size (If c P Q)) P rs ls p 0 (omega arith)) (one_opened (rule_size (If c P Q)) Q rs ls p 1 (omega arith))
-    rule_opened (Let t P) rs ls p long = one_opened (rule_size (Let t P)) P (always (reading shape t rs A) ∷ rs) (None ∷ ls) p 0 (omega arith)
-    rule_opened (Forall u c P) rs ls p long = forall_opened u c P rs ls p (rule_size (Forall u c P)) long (omega arith)
-    rule_opened (Choose u c P Q) rs ls p long = choice_opened (rule_size (Choose u c P Q)) (chosen p) (passing shape u c rs A) P Q rs ls p (omega arith) (omega arith)
-    rule_opened (Call P to ts) rs ls p long = one_opened (rule_size (Call P to ts)) P _ _ p 0 (omega arith)
+        either_opened shape turns chosen l A gs (rule_size (If c P Q)) (is_true (reading shape c rs A)) (one_work P rs ls p 0) (one_work Q rs ls p 1) _ _
+        (one_opened shape turns chosen l A gs (rule_size (If c P Q)) P rs ls p 0 (omega arith)) (one_opened shape turns chosen l A gs (rule_size (If c P Q)) Q rs ls p 1 (omega arith))
+    rule_opened (Let t P) rs ls p long = one_opened shape turns chosen l A gs (rule_size (Let t P)) P (always (reading shape t rs A) ∷ rs) (None ∷ ls) p 0 (omega arith)
+    rule_opened (Forall u c P) rs ls p long = forall_opened shape turns chosen l A gs cut u c P rs ls p (rule_size (Forall u c P)) long (omega arith)
+    rule_opened (Choose u c P Q) rs ls p long = choice_opened shape turns chosen l A gs (rule_size (Choose u c P Q)) (chosen p) (passing shape u c rs A) P Q rs ls p (omega arith) (omega arith)
+    rule_opened (Call P to ts) rs ls p long = one_opened shape turns chosen l A (optional_arguments shape to rs gs A) (rule_size (Call P to ts)) P _ _ p 0 (omega arith)

@@ -31,7 +31,7 @@ abbrev pub AreValuesAt : UpdateSet → Location → List Assigned → Type 0
 AreValuesAt U l found = (v : Value) → Has U l v ↔ Contains (values_of found) v
 
 -- a later update takes the place of an earlier one of the same location
-abbrev pub later : (earlier last : List Assigned) → List Assigned
+abbrev pub later : {X : Type 0} → (earlier last : List X) → List X
 later earlier [] = earlier
 later earlier (a ∷ more) = a ∷ more
 

@@ -6,6 +6,8 @@ mod assigned;
 pub mod assignment;
 mod bound_values;
 pub mod clash;
+pub mod found;
 pub mod laws;
+pub mod sought;
 pub mod standing;
 mod step_end;

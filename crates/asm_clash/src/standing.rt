@@ -1,5 +1,5 @@
 //! The assignments whose updates stand at a location, found by a walk over pieces.
-ghost use Rattle.std.specs.Prelude.{◌≡◌, ◌<◌, IfOk, map};
+ghost use Rattle.std.specs.Prelude.{◌≡◌, ◌<◌, List, IfOk, map};
 ghost use Rattle.asm_state.specs.Signature.{count_of, location_at};
 ghost use Rattle.asm_state.specs.Updates.{UpdateSet, IsConsistent, fire};
 ghost use Rattle.asm_updates.specs.code.Stands.{Stands};
@@ -11,11 +11,14 @@ ghost use Rattle.asm_code.specs.code.RuleViews.{rule_of, rules_of};
 ghost use Rattle.asm_eval.specs.code.Frames.{IsSoundFrame};
 ghost use Rattle.asm_eval.specs.code.Pieces.{IsPiece};
 ghost use Rattle.asm_eval.specs.code.Evaluation.{rule_upon, evaluation_shape, evaluation_state};
-ghost use Rattle.asm_clash.specs.Standing.{later, all_assigned};
+ghost use Rattle.asm_clash.specs.code.BoundValues.{Detailed};
+ghost use Rattle.asm_clash.specs.code.FirstFound.{IsFound};
 ghost use Rattle.asm_clash.specs.code.StandingRules.{IsNext, order_in, stands_at, stands_in};
 
 use crate::assigned::assigned;
-use crate::assignment::Assignment;
+use crate::bound_values::given_in_pieces;
+use crate::found::Found;
+use crate::sought::Sought;
 use asm_code::rule_code::RuleCode;
 use asm_eval::evaluation::Evaluation;
 use asm_eval::frame::Frame;
@@ -29,20 +32,20 @@ use asm_reader::Picks;
 use asm_updates::summary::Summary;
 use std::alloc::{AllocError, Global};
 
-/// The assignments of the piece's rule whose updates stand at the location with this number, in the
-/// set that the piece yields, in the order of evaluation.
+/// The assignments of the piece's rule whose updates stand at the location that is sought, in the
+/// set that the piece yields, in the order of evaluation: the first, and how many there are.
 #[cycle(walk)]
 pub fn standing_in<'e, P: Picks>(
     alloc: Global,
     evaluation: &Evaluation<'_, '_, P>,
     piece: &'e Piece<'e>,
-    n: usize,
-) -> Result<Vec<Assignment>, AllocError>
+    sought: &Sought<'_>,
+) -> Result<Found, AllocError>
     requires piece { IsPiece (evaluation_shape evaluation.now) piece.now }
     requires whole { piece.now.part ≡ part.Whole }
-    requires number { n < count_of (evaluation_shape evaluation.now) }
-    ensures { let l = location_at (evaluation_shape evaluation.now) n in
-        IfOk result (λ found. all_assigned found.items ≡ stands_at evaluation.now l piece.now.frame piece.now.path (rule_of piece.now.rule.now)) }
+    requires number { sought.now.location < count_of (evaluation_shape evaluation.now) }
+    ensures { let l = location_at (evaluation_shape evaluation.now) sought.now.location in
+        IfOk result (IsFound sought.now.most (stands_at evaluation.now l sought.now.given.now piece.now.frame piece.now.path (rule_of piece.now.rule.now))) }
 {
     opening_laws::<P>();
     let cut = whole_cut(evaluation.view.signature, piece.rule);
@@ -50,22 +53,30 @@ pub fn standing_in<'e, P: Picks>(
     let path = piece.path.as_slice();
     match open_piece(alloc, evaluation, &*piece, cut)? {
         Opened::Pieces { pieces, .. } => {
-            let mut all = Vec::new(alloc);
+            let mut all = Found::none(alloc);
+            let given = given_in_pieces(alloc, evaluation.view, frame, piece.rule, sought.given)?;
             for i in 0..pieces.len() {
-                let mut found = standing_in(alloc, evaluation, &pieces[i], n)?;
-                all.append(&mut found)?;
+                let room = Sought {
+                    location: sought.location,
+                    given: given.as_slice(),
+                    most: all.room(sought.most),
+                };
+                let found = standing_in(alloc, evaluation, &pieces[i], &room)?;
+                all.append(found)?;
             }
             Ok(all)
         }
         Opened::Closed => match piece.rule {
             RuleCode::Assign { place, value } => {
-                assigned(alloc, evaluation.view, frame, place, value, path, n)
+                assigned(alloc, evaluation.view, frame, place, value, path, sought)
             }
             RuleCode::Seq(parts) => {
-                standing_in_order(alloc, evaluation, frame, parts.as_slice(), path, n)
+                standing_in_order(alloc, evaluation, frame, parts.as_slice(), path, sought)
             }
-            RuleCode::Iterate(body) => standing_in_turns(alloc, evaluation, frame, body, path, n),
-            _ => Ok(Vec::new(alloc)),
+            RuleCode::Iterate(body) => standing_in_turns(
+                alloc, evaluation, frame, body, path, sought,
+            ),
+            _ => Ok(Found::none(alloc)),
         },
     }
 }
@@ -78,16 +89,16 @@ fn standing_in_order<'e, P: Picks>(
     frame: &'e Frame<'e>,
     parts: &'e [RuleCode],
     path: &[u64],
-    n: usize,
-) -> Result<Vec<Assignment>, AllocError>
+    sought: &Sought<'_>,
+) -> Result<Found, AllocError>
     requires sound { AreSoundRules (evaluation_shape evaluation.now) (rules_of (map rule_of parts.now)) }
     requires framed { IsSoundFrame (evaluation_shape evaluation.now) frame.now }
-    requires number { n < count_of (evaluation_shape evaluation.now) }
-    ensures { let l = location_at (evaluation_shape evaluation.now) n in
-        IfOk result (λ found. all_assigned found.items ≡ order_in evaluation.now l frame.now path.now 0 (rules_of (map rule_of parts.now)) (evaluation_state evaluation.now)) }
+    requires number { sought.now.location < count_of (evaluation_shape evaluation.now) }
+    ensures { let l = location_at (evaluation_shape evaluation.now) sought.now.location in
+        IfOk result (IsFound sought.now.most (order_in evaluation.now l sought.now.given.now frame.now path.now 0 (rules_of (map rule_of parts.now)) (evaluation_state evaluation.now))) }
 {
     let mut so_far = Summary::new(alloc, evaluation.view.signature.count());
-    let mut found = Vec::new(alloc);
+    let mut found = Found::none(alloc);
     for i in 0..parts.len() {
         let rule = &parts[i];
         let number = i as u64;
@@ -98,7 +109,7 @@ fn standing_in_order<'e, P: Picks>(
             rule,
             path,
             number,
-            n,
+            sought,
             &mut so_far,
             &mut found,
         )?;
@@ -120,16 +131,16 @@ fn standing_in_turns<'e, P: Picks>(
     frame: &'e Frame<'e>,
     body: &'e RuleCode,
     path: &[u64],
-    n: usize,
-) -> Result<Vec<Assignment>, AllocError>
+    sought: &Sought<'_>,
+) -> Result<Found, AllocError>
     requires sound { IsSoundRule (evaluation_shape evaluation.now) (rule_of body.now) }
     requires framed { IsSoundFrame (evaluation_shape evaluation.now) frame.now }
-    requires number { n < count_of (evaluation_shape evaluation.now) }
-    ensures { let l = location_at (evaluation_shape evaluation.now) n in
-        IfOk result (λ found. all_assigned found.items ≡ stands_at evaluation.now l frame.now path.now (tree.Iterate (rule_of body.now))) }
+    requires number { sought.now.location < count_of (evaluation_shape evaluation.now) }
+    ensures { let l = location_at (evaluation_shape evaluation.now) sought.now.location in
+        IfOk result (IsFound sought.now.most (stands_at evaluation.now l sought.now.given.now frame.now path.now (tree.Iterate (rule_of body.now)))) }
 {
     let mut so_far = Summary::new(alloc, evaluation.view.signature.count());
-    let mut found = Vec::new(alloc);
+    let mut found = Found::none(alloc);
     for turn in 0..evaluation.turns {
         let number = u64::from(turn);
         let next = standing_next(
@@ -139,7 +150,7 @@ fn standing_in_turns<'e, P: Picks>(
             body,
             path,
             number,
-            n,
+            sought,
             &mut so_far,
             &mut found,
         )?;
@@ -163,20 +174,21 @@ fn standing_next<'e, P: Picks>(
     rule: &'e RuleCode,
     path: &[u64],
     number: u64,
-    n: usize,
+    sought: &Sought<'_>,
     so_far: &mut Summary,
-    found: &mut Vec<Assignment>,
+    found: &mut Found,
 ) -> Result<Option<PartSet>, AllocError>
     requires sound { IsSoundRule (evaluation_shape evaluation.now) (rule_of rule.now) }
     requires framed { IsSoundFrame (evaluation_shape evaluation.now) frame.now }
-    requires number { n < count_of (evaluation_shape evaluation.now) }
+    requires number { sought.now.location < count_of (evaluation_shape evaluation.now) }
     requires so_far { so_far.old.count ≡ count_of (evaluation_shape evaluation.now) }
     ensures count { so_far.new.count ≡ so_far.old.count }
     ensures next { let p = yields.at path.now number in
-        let l = location_at (evaluation_shape evaluation.now) n in
-        IfOk result (λ part. (U : UpdateSet) → Stands (evaluation_shape evaluation.now) so_far.old U → IsConsistent U →
-        IsNext (evaluation_shape evaluation.now) U (rule_upon evaluation.now U frame.now p (rule_of rule.now)).result (stands_in evaluation.now l frame.now p (rule_of rule.now) (fire (evaluation_state evaluation.now) U))
-        (all_assigned found.old.items) (all_assigned found.new.items) so_far.new part) }
+        let l = location_at (evaluation_shape evaluation.now) sought.now.location in
+        IfOk result (λ part. (U : UpdateSet) (before : List Detailed) → Stands (evaluation_shape evaluation.now) so_far.old U → IsConsistent U → IsFound sought.now.most before found.old →
+        (now : List Detailed) × IsFound sought.now.most now found.new ×
+        IsNext (evaluation_shape evaluation.now) U (rule_upon evaluation.now U frame.now p (rule_of rule.now)).result
+        (stands_in evaluation.now l sought.now.given.now frame.now p (rule_of rule.now) (fire (evaluation_state evaluation.now) U)) before now so_far.new part) }
 {
     let path = Path::below(alloc, path, number)?;
     let piece = Piece {
@@ -195,21 +207,11 @@ fn standing_next<'e, P: Picks>(
     match outcome {
         Outcome::Exhausted(_) => Ok(None),
         Outcome::Set { set, .. } => {
-            let own = standing_in(alloc, &inner, &piece, n)?;
+            let own = standing_in(alloc, &inner, &piece, sought)?;
             let part = PartSet::of(evaluation.view.signature, &set);
             so_far.merge_with(&set)?;
-            put_later(found, own);
+            found.put_later(own);
             Ok(Some(part))
         }
     }
-}
-
-/// Replaces earlier assignments by later ones, if there are any.
-fn put_later(found: &mut Vec<Assignment>, own: Vec<Assignment>)
-    ensures { all_assigned found.new.items ≡ later (all_assigned found.old.items) (all_assigned own.items) }
-{
-    if own.len() == 0 {
-        return;
-    }
-    *found = own;
 }

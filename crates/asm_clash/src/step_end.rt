@@ -12,7 +12,8 @@ ghost use Rattle.asm_eval.specs.declared.frame.Frame.TheVariants as bare;
 ghost use Rattle.asm_clash.specs.ClashOfRun.{location_of};
 ghost use Rattle.asm_clash.specs.code.StepEnds.{IsStepEnd};
 
-use crate::assignment::Assignment;
+use crate::found::Found;
+use crate::sought::Sought;
 use crate::standing::standing_in;
 use asm_code::rule_code::RuleCode;
 use asm_eval::evaluation::Evaluation;
@@ -33,11 +34,8 @@ pub enum StepEnd {
     Consistent(Summary),
     /// No set: the `iterate` at this path has made its last turn.
     Exhausted(Path),
-    /// A set with this first fault, and the assignments whose updates stand at its location.
-    Faulty {
-        fault: Fault,
-        assignments: Vec<Assignment>,
-    },
+    /// A set with this first fault, and the first assignments whose updates stand at its location.
+    Faulty { fault: Fault, found: Found },
 }
 
 /// The number of the location of a set's first fault.
@@ -60,10 +58,11 @@ fn step_end_in<'a, 'e>(
     main: &'e RuleCode,
     turns: u32,
     choices: &'a Choices<'a, Script>,
+    most: usize,
 ) -> Result<StepEnd, AllocError>
     requires bare { frame.now ≡ bare.Empty }
     requires sound { IsSoundRule view.now.signature.now (rule_of main.now) }
-    ensures { IfOk result (IsStepEnd view.now.signature.now turns (pick choices.now.script.now choices.now.step) (rule_of main.now) (shown view.now)) }
+    ensures { IfOk result (IsStepEnd view.now.signature.now turns (pick choices.now.script.now choices.now.step) (rule_of main.now) (shown view.now) most) }
 {
     let signature = view.signature;
     let evaluation = Evaluation {
@@ -84,9 +83,13 @@ fn step_end_in<'a, 'e>(
         Outcome::Set { set, .. } => match set.first_fault(signature) {
             None => Ok(StepEnd::Consistent(set)),
             Some(fault) => {
-                let n = fault_number(signature, &set, &fault);
-                let assignments = standing_in(alloc, &evaluation, &piece, n)?;
-                Ok(StepEnd::Faulty { fault, assignments })
+                let sought = Sought {
+                    location: fault_number(signature, &set, &fault),
+                    given: &[],
+                    most,
+                };
+                let found = standing_in(alloc, &evaluation, &piece, &sought)?;
+                Ok(StepEnd::Faulty { fault, found })
             }
         },
     }
@@ -100,13 +103,14 @@ pub(crate) fn step_end_from(
     turns: u32,
     choices: &Choices<'_, Script>,
     state: &State,
+    most: usize,
 ) -> Result<StepEnd, AllocError>
     requires whole { length state.now ≡ count_of signature.now }
     requires sound { IsSoundRule signature.now (rule_of main.now) }
-    ensures { IfOk result (IsStepEnd signature.now turns (pick choices.now.script.now choices.now.step) (rule_of main.now) (state_of signature.now state.now)) }
+    ensures { IfOk result (IsStepEnd signature.now turns (pick choices.now.script.now choices.now.step) (rule_of main.now) (state_of signature.now state.now) most) }
 {
     let nothing = Summary::new(alloc, signature.count());
     let view = View::new(signature, state, &nothing);
-    let step_end = step_end_in(alloc, &view, &Frame::Empty, main, turns, choices)?;
+    let step_end = step_end_in(alloc, &view, &Frame::Empty, main, turns, choices, most)?;
     Ok(step_end)
 }

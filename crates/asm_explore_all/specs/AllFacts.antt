@@ -2,20 +2,32 @@
 --     condition_lines conditions      the conditions
 --     all_looked_for conditions       which faults are looked for
 --     count_lines answer              states, steps, depth, the widest step, and quiet states
---     IsCrowd finding lines           of a step with too many outcomes, how many there are beside
---                                     how many others; where that is is left free
---     graph_note                      the line for a graph that isn't written
+--     IsCrowd finding lines           of a step with too many outcomes, at which path there are how
+--                                     many beside how many others; where in the text that is is
+--                                     left free
+--     IsGraphNote asked file lines    nothing is said of the graph, unless it is asked for and has
+--                                     more than 2,000 states
 --     AreFacts                        all of them, in order
 use Rattle.std.specs.Prelude.{◌≡◌, ◌⊎◌, ℕ, List, [], ◌∷◌, ◌++◌, length, Option, Some, None, codes, decimal}
+use Rattle.asm_syntax.specs.code.Views.{spec_of}
+use Rattle.asm_check.specs.Shapes.{shape_of}
+use Rattle.asm_meaning.specs.Declarations.{specification_of}
+use Rattle.asm_explore.specs.Conditions.{term_holds}
+use Rattle.asm_explore.specs.code.MainRule.{IsMainOverLimit}
 use Rattle.asm_explore.specs.declared.exploration_result.ExplorationResult.{ExplorationResult}
 use Rattle.asm_explore.specs.declared.exploration_result.Finding.{Finding}
 use Rattle.asm_explore.specs.declared.exploration_result.Finding.TheVariants as finding
+use Rattle.asm_explore.specs.declared.outcomes.outcomes_error.RuleOverLimit.{RuleOverLimit}
+use Rattle.asm_run.specs.Trace.{path_text}
+use Rattle.asm_graph.specs.Graphs.{AreTooMany, IsGraph}
+use Rattle.asm_graph.specs.declared.graph.Graph.{Graph}
 use Rattle.asm_explore_texts.specs.Conditions.{text_of, texts_of}
 use Rattle.asm_explore_texts.specs.declared.conditions.Conditions.{Conditions}
 use Rattle.asm_explore_words.specs.declared.settings.Settings.{Settings}
 use Rattle.asm_explore_report.specs.Commands.{command}
 use Rattle.asm_explore_report.specs.Facts.{always_lines, condition_line, looked_for}
 use Rattle.asm_explore_report.specs.ShownRuns.{Shown, first_state, shown_bad}
+use Rattle.asm_explore_all.specs.declared.checked_question.CheckedQuestion.{CheckedQuestion}
 
 -- ---- conditions
 
@@ -45,12 +57,14 @@ count_lines answer =
     count_line (codes "states") answer.states ∷ count_line (codes "steps") answer.outcomes ∷ count_line (codes "depth") answer.depth
     ∷ count_line (codes "widest") answer.widest ∷ count_line (codes "quiet") answer.quiet ∷ []
 
-pub record IsCrowdLine (first others : ℕ) (line : List ℕ) : Type 0 where
-  pub place : List ℕ
-  pub is : line ≡ codes "too many outcomes at " ++ (place ++ (codes ": " ++ (decimal first ++ (codes " beside " ++ decimal others))))
+pub record IsCrowdLine (crowd : RuleOverLimit) (line : List ℕ) : Type 0 where
+  pub position : List ℕ
+  pub is :
+      line ≡ codes "too many outcomes at " ++ (position ++ (codes "place " ++ (path_text crowd.path
+      ++ (codes ": " ++ (decimal crowd.first ++ (codes " beside " ++ decimal crowd.others))))))
 
 abbrev pub IsCrowd : Finding → (lines : List (List ℕ)) → Type 0
-IsCrowd (finding.TooManyOutcomes depth crowd) lines = (line : List ℕ) × IsCrowdLine crowd.first crowd.others line × (lines ≡ line ∷ [])
+IsCrowd (finding.TooManyOutcomes depth crowd) lines = (line : List ℕ) × IsCrowdLine crowd line × (lines ≡ line ∷ [])
 IsCrowd finding.Closed lines = lines ≡ []
 IsCrowd (finding.SafeTo depth) lines = lines ≡ []
 IsCrowd (finding.BadStep bad) lines = lines ≡ []
@@ -75,15 +89,37 @@ abbrev pub command_lines : (turns : ℕ) → (name : List ℕ) → Option Shown 
 command_lines turns name None = []
 command_lines turns name (Some run) = command run.1 turns name ∷ []
 
--- ---- all of them
+-- ---- the graph of states
 
 abbrev pub graph_note : List ℕ
 graph_note = codes "no graph is written: more than 2000 states"
 
-pub record AreFacts (conditions : Conditions) (settings : Settings) (answer : ExplorationResult) (lines : List (List ℕ)) : Type 0 where
+module _ (asked : CheckedQuestion) where
+  -- there is a graph of at most 2,000 states
+  abbrev pub HasGraph : Type 0
+  HasGraph =
+      let s = spec_of asked.checked.spec in
+      let q = asked.question in
+      (graph : Graph)
+      × IsGraph (shape_of s) (specification_of s) q.turns (term_holds asked.checked q.within) (IsMainOverLimit asked.checked q.turns q.outcomes) q.steps 2000
+      (term_holds asked.checked q.always) (term_holds asked.checked q.when_quiet) graph
+
+  abbrev pub HasTooMany : Type 0
+  HasTooMany =
+      let q = asked.question in
+      AreTooMany (specification_of (spec_of asked.checked.spec)) q.turns (term_holds asked.checked q.within) q.steps 2000
+
+  -- it is asked for by the name of a file
+  abbrev pub IsGraphNote : {X : Type 0} → (file : Option X) → (lines : List (List ℕ)) → Type 0
+  IsGraphNote None lines = lines ≡ []
+  IsGraphNote (Some name) lines = (HasGraph × (lines ≡ [])) ⊎ (HasTooMany × (lines ≡ graph_note ∷ []))
+
+-- ---- all of them
+
+pub record AreFacts (asked : CheckedQuestion) (conditions : Conditions) (settings : Settings) (answer : ExplorationResult) (lines : List (List ℕ)) : Type 0 where
   pub crowd : List (List ℕ)
   pub is_crowd : IsCrowd answer.finding crowd
   pub graph : List (List ℕ)
-  pub is_graph : (graph ≡ []) ⊎ (graph ≡ graph_note ∷ [])
+  pub is_graph : IsGraphNote asked settings.dot graph
   pub are :
       lines ≡ crowd ++ (condition_lines conditions ++ (all_looked_for conditions ∷ (count_lines answer ++ (graph ++ command_lines settings.turns settings.spec.now (shown_in answer.finding)))))

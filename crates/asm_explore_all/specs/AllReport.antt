@@ -16,12 +16,13 @@ use Rattle.asm_explore.specs.declared.exploration_result.Finding.{Finding}
 use Rattle.asm_explore.specs.declared.exploration_result.Finding.TheVariants as finding
 use Rattle.asm_explore_texts.specs.declared.conditions.Conditions.{Conditions}
 use Rattle.asm_explore_words.specs.declared.settings.Settings.{Settings}
-use Rattle.asm_explore_report.specs.FaultWords.{BadTells, IsBroken}
+use Rattle.asm_explore_report.specs.FaultWords.{BadTells, IsBroken, unwritten_words}
 use Rattle.asm_explore_report.specs.Printed.{IsPrinted}
 use Rattle.asm_explore_report.specs.declared.report.Report.{Report}
 use Rattle.asm_explore_all.specs.AllFacts.{AreFacts, shown_in}
 use Rattle.asm_explore_all.specs.CheckedQuestions.{IsExplored}
 use Rattle.asm_explore_all.specs.FindingLine.{first_line}
+use Rattle.asm_explore_all.specs.declared.checked_question.CheckedQuestion.{CheckedQuestion}
 
 abbrev pub status_of : Finding → ℕ
 status_of finding.Closed = 0
@@ -41,18 +42,18 @@ WordsTell checked links turns (finding.SafeTo depth) words = ⊤
 WordsTell checked links turns (finding.TooManyStates depth) words = ⊤
 WordsTell checked links turns (finding.TooManyOutcomes depth crowd) words = ⊤
 WordsTell checked links turns (finding.NoMemory depth) words = ⊤
-WordsTell checked links turns (finding.Unwritten unwritten) words = ⊤
+WordsTell checked links turns (finding.Unwritten unwritten) words = words ≡ unwritten_words
 
 module _ (text : List ℕ) (conditions : Conditions) (settings : Settings) where
-  pub record IsReport (checked : Checked) (links : List (Op × Term)) (turns : ℕ) (answer : ExplorationResult) (printed : List ℕ) : Type 0 where
+  pub record IsReport (asked : CheckedQuestion) (links : List (Op × Term)) (answer : ExplorationResult) (printed : List ℕ) : Type 0 where
     pub words : List ℕ
-    pub tell : WordsTell checked links turns answer.finding words
+    pub tell : WordsTell asked.checked links asked.question.turns answer.finding words
     pub facts : List (List ℕ)
-    pub are_facts : AreFacts conditions settings answer facts
-    pub are_printed : IsPrinted text turns settings.trace (first_line answer.finding words) facts (shown_in answer.finding) printed
+    pub are_facts : AreFacts asked conditions settings answer facts
+    pub are_printed : IsPrinted text asked.question.turns settings.trace (first_line answer.finding words) facts (shown_in answer.finding) printed
 
   pub record IsReported (report : Report) : Type 0 where
     pub answer : ExplorationResult
     pub explored : IsExplored text conditions settings answer
     pub status : report.status ≡ status_of answer.finding
-    pub printed : IsReport explored.asked.checked explored.is_asked.always.links explored.asked.question.turns answer report.text.items
+    pub printed : IsReport explored.asked explored.is_asked.always.links answer report.text.items

@@ -2,3 +2,4 @@ pub mod AllFacts
 pub mod AllReport
 pub mod CheckedQuestions
 pub mod FindingLine
+pub mod code

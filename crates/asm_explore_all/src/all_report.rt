@@ -1,10 +1,14 @@
 //! What is printed of an exploration of all runs.
 ghost use Rattle.std.specs.Prelude.{◌≡◌, ◌<◌, ◌≤◌, List, IfOk};
 ghost use Rattle.asm_state.specs.declared.operation.Op.{Op};
+ghost use Rattle.asm_syntax.specs.code.Views.{spec_of};
 ghost use Rattle.asm_syntax.specs.declared.term.Term.{Term as Code};
+ghost use Rattle.asm_run.specs.Headline.{IsAccepted};
 ghost use Rattle.asm_explore_texts.specs.Conditions.{IsJoined};
+ghost use Rattle.asm_explore_all.specs.AllFacts.{IsGraphNote};
 ghost use Rattle.asm_explore_all.specs.AllReport.{IsReport, IsReported, WordsTell, status_of as found_status};
 ghost use Rattle.asm_explore_all.specs.CheckedQuestions.{IsAsked};
+ghost use Rattle.asm_explore_all.specs.code.GraphFiles.{graph_lines};
 
 use crate::checked_question::{CheckedQuestion, ask};
 use crate::facts::{facts, shown_run};
@@ -42,7 +46,7 @@ fn words_of<'w, R: Threads + Sync>(
     subject: &Subject<'_>,
     finding: &Finding,
 ) -> Result<Vec<u8>, Fault<'w>>
-    ensures { (links : List (Op × Code)) → IsJoined links subject.now.always.now →
+    ensures { (links : List (Op × Code)) → IsJoined links subject.now.always.now → IsAccepted text.now (spec_of subject.now.checked.now.spec) →
         IfOk result (λ words. WordsTell subject.now.checked.now links subject.now.turns finding.now words.items) }
 {
     match finding {
@@ -68,20 +72,20 @@ fn printed_of<'w, R: Threads + Sync>(
     answered: &ExplorationResult,
     drawing: GraphFile,
 ) -> Result<Vec<u8>, Fault<'w>>
+    requires accepted { IsAccepted text.now (spec_of asked.now.checked.spec) }
+    requires drawn { IsGraphNote asked.now settings.now.dot (graph_lines drawing) }
     ensures { (links : List (Op × Code)) → IsJoined links asked.now.question.always →
-        IfOk result (λ whole. IsReport text.now conditions.now settings.now asked.now.checked links asked.now.question.turns answered.now whole.items) }
+        IfOk result (λ whole. IsReport text.now conditions.now settings.now asked.now links answered.now whole.items) }
 {
-    let (checked, finding) = (&asked.checked, &answered.finding);
+    let finding = &answered.finding;
     let subject = Subject {
-        checked,
+        checked: &asked.checked,
         always: &asked.question.always,
         turns: asked.question.turns,
     };
     let words = words_of(rt, alloc, text, &subject, finding)?;
     let first = finding_line(alloc, finding, words.as_slice())?;
-    let facts = facts(
-        alloc, text, checked, conditions, settings, answered, drawing,
-    )?;
+    let facts = facts(alloc, text, asked, conditions, settings, answered, drawing)?;
     let whole = printed(
         rt,
         alloc,

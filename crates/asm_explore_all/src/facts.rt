@@ -1,12 +1,14 @@
 //! The lines behind the first of a report of all runs.
-ghost use Rattle.std.specs.Prelude.{◌≡◌, ◌⊎◌, ◌∷◌, ◌++◌, [], List, ℕ, IfOk, OnOk};
+ghost use Rattle.std.specs.Prelude.{◌≡◌, ◌∷◌, ◌++◌, [], IfOk, OnOk};
 ghost use Rattle.std.specs.String.{string_bytes};
 ghost use Rattle.asm_explore_texts.specs.Conditions.{text_of};
 ghost use Rattle.asm_explore_report.specs.Comments.{lines_of};
 ghost use Rattle.asm_explore_report.specs.Facts.{condition_line};
 ghost use Rattle.asm_explore_report.specs.ShownRuns.{shown_of};
-ghost use Rattle.asm_explore_all.specs.AllFacts.{AreFacts, IsCrowd, IsCrowdLine, all_looked_for, command_lines, condition_lines, count_line, count_lines, graph_note, optional_line, shown_in};
+ghost use Rattle.asm_explore_all.specs.AllFacts.{AreFacts, IsCrowd, IsCrowdLine, IsGraphNote, all_looked_for, command_lines, condition_lines, count_line, count_lines, optional_line, shown_in};
+ghost use Rattle.asm_explore_all.specs.code.GraphFiles.{graph_lines};
 
+use crate::checked_question::CheckedQuestion;
 use crate::graph_file::GraphFile;
 use asm_check::Checked;
 use asm_explore::{ExplorationResult, Finding, RuleOverLimit};
@@ -14,9 +16,10 @@ use asm_explore_report::command::command;
 use asm_explore_report::facts::{add, add_always, add_condition, add_text, looked_for};
 use asm_explore_report::shown_run::{ShownRun, first_state, run_of};
 use asm_explore_texts::conditions::{Condition, Conditions};
-use asm_explore_texts::path_text::{push_path, push_position};
+use asm_explore_texts::path_text::push_position;
 use asm_explore_texts::rule_in_text::rule_in_text;
 use asm_explore_words::settings::Settings;
+use asm_run::locations::push_path;
 use std::alloc::{AllocError, Global};
 
 /// Adds a condition that may be left out, behind this name.
@@ -86,21 +89,19 @@ fn add_counts(
     Ok(())
 }
 
-/// Where a rule is whose step has too many outcomes.
-fn place_of(
+/// Where in the text a rule is whose step has too many outcomes, if it is there.
+fn position_of(
     alloc: Global,
     text: &[u8],
     checked: &Checked,
     path: &[u64],
 ) -> Result<Vec<u8>, AllocError> {
-    let mut place = Vec::new(alloc);
+    let mut position = Vec::new(alloc);
     if let Some(found) = rule_in_text(alloc, checked, path)? {
-        push_position(alloc, &mut place, text, found.name.at)?;
-        place.extend_from_slice(b", ")?;
+        push_position(alloc, &mut position, text, found.name.at)?;
+        position.extend_from_slice(b", ")?;
     }
-    place.extend_from_slice(b"place ")?;
-    push_path(alloc, &mut place, path)?;
-    Ok(place)
+    Ok(position)
 }
 
 /// The line that says of which rule a step has too many outcomes, and how many.
@@ -110,12 +111,15 @@ fn crowd_line(
     checked: &Checked,
     crowd: &RuleOverLimit,
 ) -> Result<Vec<u8>, AllocError>
-    ensures { IfOk result (λ line. IsCrowdLine crowd.now.first crowd.now.others line.items) }
+    ensures { IfOk result (λ line. IsCrowdLine crowd.now line.items) }
 {
-    let place = place_of(alloc, text, checked, crowd.path.as_slice())?;
+    let path = crowd.path.as_slice();
+    let position = position_of(alloc, text, checked, path)?;
     let (first, others) = (crowd.first, crowd.others);
     let mut line = Vec::from_slice(alloc, b"too many outcomes at ")?;
-    line.extend_from_slice(place.as_slice())?;
+    line.extend_from_slice(position.as_slice())?;
+    line.extend_from_slice(b"place ")?;
+    push_path(&mut line, path)?;
     line.extend_from_slice(format!(in alloc; ": {first} beside {others}")?.as_bytes())?;
     Ok(line)
 }
@@ -174,7 +178,7 @@ fn add_graph_note(
     lines: &mut Vec<Vec<u8>>,
     drawing: GraphFile,
 ) -> Result<(), AllocError>
-    ensures { OnOk result ((note : List (List ℕ)) × ((note ≡ []) ⊎ (note ≡ graph_note ∷ [])) × (lines_of lines.new.items ≡ lines_of lines.old.items ++ note)) }
+    ensures { OnOk result (lines_of lines.new.items ≡ lines_of lines.old.items ++ graph_lines drawing) }
 {
     match drawing {
         GraphFile::NotAsked | GraphFile::Written => Ok(()),
@@ -189,16 +193,17 @@ fn add_graph_note(
 pub(crate) fn facts(
     alloc: Global,
     text: &[u8],
-    checked: &Checked,
+    asked: &CheckedQuestion,
     conditions: &Conditions<'_>,
     settings: &Settings<'_>,
     answered: &ExplorationResult,
     drawing: GraphFile,
 ) -> Result<Vec<Vec<u8>>, AllocError>
-    ensures { IfOk result (λ lines. AreFacts conditions.now settings.now answered.now (lines_of lines.items)) }
+    requires { IsGraphNote asked.now settings.now.dot (graph_lines drawing) }
+    ensures { IfOk result (λ lines. AreFacts asked.now conditions.now settings.now answered.now (lines_of lines.items)) }
 {
     let finding = &answered.finding;
-    let mut lines = crowd_lines(alloc, text, checked, finding)?;
+    let mut lines = crowd_lines(alloc, text, &asked.checked, finding)?;
     add_conditions(alloc, &mut lines, conditions)?;
     add_text(&mut lines, all_looked_for_line(alloc, conditions)?)?;
     add_counts(alloc, &mut lines, answered)?;

@@ -1,4 +1,8 @@
 //! The graph of states, written to a file.
+ghost use Rattle.std.specs.Prelude.{IfNone, IfOk, IfSome};
+ghost use Rattle.asm_explore_all.specs.AllFacts.{HasGraph, HasTooMany, IsGraphNote};
+ghost use Rattle.asm_explore_all.specs.code.GraphFiles.{graph_lines};
+
 use crate::checked_question::CheckedQuestion;
 use crate::files::NewFiles;
 use asm_explore_words::fault::Fault;
@@ -21,7 +25,10 @@ pub(crate) enum GraphFile {
 }
 
 /// The text of the graph of states that the question comes to, unless it has too many.
-fn graph_text<'w>(alloc: Global, asked: &CheckedQuestion) -> Result<Option<String>, Fault<'w>> {
+fn graph_text<'w>(alloc: Global, asked: &CheckedQuestion) -> Result<Option<String>, Fault<'w>>
+    ensures few { IfOk result (λ text. IfSome text (λ dot. HasGraph asked.now)) }
+    ensures many { IfOk result (λ text. IfNone text (HasTooMany asked.now)) }
+{
     let graph = match state_graph(alloc, &asked.checked, &asked.question, MAX_GRAPH_STATES) {
         Ok(graph) => graph,
         Err(GraphError::Memory) => return Err(Fault::Memory),
@@ -52,7 +59,9 @@ pub(crate) fn draw<'w, F: NewFiles>(
     alloc: Global,
     asked: &CheckedQuestion,
     name: Option<&'w str>,
-) -> Result<GraphFile, Fault<'w>> {
+) -> Result<GraphFile, Fault<'w>>
+    ensures { IfOk result (λ drawing. IsGraphNote asked.now name.entry (graph_lines drawing)) }
+{
     let Some(name) = name else {
         return Ok(GraphFile::NotAsked);
     };

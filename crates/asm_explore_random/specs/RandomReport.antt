@@ -26,7 +26,7 @@ use Rattle.asm_explore_report.specs.AskedConditions.{AreAllAsked}
 use Rattle.asm_explore_texts.specs.Conditions.{texts_of}
 use Rattle.asm_explore_report.specs.FirstLine.{fault_line, first_state_line}
 use Rattle.asm_explore_report.specs.Printed.{IsPrinted}
-use Rattle.asm_explore_report.specs.FaultWords.{BadTells, IsBroken}
+use Rattle.asm_explore_report.specs.FaultWords.{BadTells, IsBroken, unwritten_words}
 use Rattle.asm_explore_texts.specs.declared.conditions.Condition.{Condition}
 use Rattle.asm_explore_random.specs.declared.random_asked.CheckedRandomQuestion.{CheckedRandomQuestion}
 use Rattle.asm_explore_report.specs.declared.report.Report.{Report}
@@ -53,7 +53,7 @@ abbrev pub RandomTells : Checked → List (Op × Term) → (turns : ℕ) → Ran
 RandomTells checked links turns random.Nothing words = ⊤
 RandomTells checked links turns (random.Bad number bad) words = BadTells checked links turns bad words
 RandomTells checked links turns random.WrongFirst words = IsBroken checked links (specification_of (spec_of checked.spec)).initial words
-RandomTells checked links turns (random.Unwritten unwritten) words = ⊤
+RandomTells checked links turns (random.Unwritten unwritten) words = words ≡ unwritten_words
 
 -- of `runs` runs that were made, of at most `steps` steps
 abbrev pub random_line : (runs steps : ℕ) → RandomFinding → (words : List ℕ) → List ℕ

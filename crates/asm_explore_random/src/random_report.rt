@@ -1,7 +1,9 @@
 //! What is printed of random runs.
 ghost use Rattle.std.specs.Prelude.{◌≡◌, List, IfOk};
 ghost use Rattle.asm_state.specs.declared.operation.Op.{Op};
+ghost use Rattle.asm_syntax.specs.code.Views.{spec_of};
 ghost use Rattle.asm_syntax.specs.declared.term.Term.{Term as Code};
+ghost use Rattle.asm_run.specs.Headline.{IsAccepted};
 ghost use Rattle.asm_explore_texts.specs.Conditions.{IsJoined};
 ghost use Rattle.asm_explore_random.specs.RandomReport.{IsRandomAsked, IsRandomReport, IsRandomReported, RandomTells, random_line, random_status};
 
@@ -37,7 +39,7 @@ fn words_of<'w, R: Threads + Sync>(
     subject: &Subject<'_>,
     finding: &RandomFinding,
 ) -> Result<Vec<u8>, Fault<'w>>
-    ensures { (links : List (Op × Code)) → IsJoined links subject.now.always.now →
+    ensures { (links : List (Op × Code)) → IsJoined links subject.now.always.now → IsAccepted text.now (spec_of subject.now.checked.now.spec) →
         IfOk result (λ words. RandomTells subject.now.checked.now links subject.now.turns finding.now words.items) }
 {
     match finding {
@@ -81,6 +83,7 @@ fn printed_of<'w, R: Threads + Sync>(
     settings: &RandomSettings<'w>,
     answer: &RandomResult,
 ) -> Result<Vec<u8>, Fault<'w>>
+    requires accepted { IsAccepted text.now (spec_of asked.now.checked.spec) }
     ensures { (links : List (Op × Code)) → IsJoined links asked.now.question.always →
         IfOk result (λ whole. IsRandomReport text.now conditions.now settings.now asked.now links answer.now whole.items) }
 {

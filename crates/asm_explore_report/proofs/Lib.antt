@@ -6,6 +6,7 @@ mod JoinedTerms
 mod PrintedScripts
 mod RunMore
 mod SkippedLines
+mod ToldEnds
 mod TraceText
 mod WholeLines
 mod WordsOfRuns

@@ -4,9 +4,11 @@
 --                                      its number, from 1, and its value
 --     shown_after fault step           how many steps of the run show a fault of this step; a
 --                                      deadlock is the state that it begins in
---     FaultTells, BadTells             of a run that was found the words are of its last state; a
---                                      deadlock is called so
-use Rattle.std.specs.Prelude.{◌≡◌, ℕ, suc, ◌-◌, true, false, List, ◌∷◌, ◌++◌, length, codes, decimal, ⊤}
+--     unwritten_words                  what is said of a run whose script can't be written
+--     FaultTells, BadTells             of a run that was found the words are those for its end, as
+--                                      its trace has them, or of its last state; a deadlock is
+--                                      called so
+use Rattle.std.specs.Prelude.{◌≡◌, ℕ, suc, ◌-◌, true, false, List, ◌∷◌, ◌++◌, length, codes, decimal}
 use Rattle.std.specs.String.{string_bytes}
 use Rattle.std.specs.List.{list_all}
 use Rattle.asm_state.specs.Location.{State}
@@ -20,7 +22,7 @@ use Rattle.asm_reader.specs.ScriptLines.{Script}
 use Rattle.asm_reader.specs.ScriptText.{IsScript}
 use Rattle.asm_meaning.specs.Declarations.{specification_of}
 use Rattle.asm_meaning.specs.Program.{nothing_bound}
-use Rattle.asm_meaning.specs.Run.{run}
+use Rattle.asm_meaning.specs.Run.{Run, run}
 use Rattle.asm_meaning.specs.Value.{is_true, value}
 use Rattle.asm_meaning.specs.code.TermValues.{program}
 use Rattle.asm_explore.specs.declared.exploration_result.BadRun.{BadRun}
@@ -28,6 +30,7 @@ use Rattle.asm_explore.specs.declared.fault.Fault.{Fault}
 use Rattle.asm_explore.specs.declared.fault.Fault.TheVariants.{Exhausted, Inconsistent, Wrong, Deadlock}
 use Rattle.asm_run.specs.Trace.{value_text}
 use Rattle.asm_run.specs.Written.{names_in}
+use Rattle.asm_explore_report.specs.EndWords.{IsEndWords}
 
 abbrev pub value_in : Checked → Term → State → Value
 value_in checked t A = value (program checked) A nothing_bound (plain_term (term_of t))
@@ -44,6 +47,9 @@ pub record IsBroken (checked : Checked) (links : List (Op × Term)) (A : State) 
   pub broken : is_true (value_in checked link.1 A) ≡ false
   pub are : words ≡ broken_words checked (suc (length before)) (value_in checked link.1 A)
 
+abbrev pub unwritten_words : List ℕ
+unwritten_words = codes "its script can't be written"
+
 abbrev pub shown_after : Fault → (step : ℕ) → ℕ
 shown_after Exhausted step = step
 shown_after Inconsistent step = step
@@ -51,11 +57,14 @@ shown_after Wrong step = step
 shown_after Deadlock step = step - 1
 
 module _ (checked : Checked) (links : List (Op × Term)) (turns : ℕ) where
+  -- of the run under the script with this text
+  abbrev pub IsOfRun : (P : Run → Type 0) → (script_text : List ℕ) → (step : ℕ) → Type 0
+  IsOfRun P script_text step = (script : Script) → IsScript script_text script → P (run (specification_of (spec_of checked.spec)) turns script step)
+
   abbrev pub FaultTells : Fault → (script_text : List ℕ) → (step : ℕ) → (words : List ℕ) → Type 0
-  FaultTells Exhausted script_text step words = ⊤
-  FaultTells Inconsistent script_text step words = ⊤
-  FaultTells Wrong script_text step words =
-      (script : Script) → IsScript script_text script → IsBroken checked links (run (specification_of (spec_of checked.spec)) turns script step).last words
+  FaultTells Exhausted script_text step words = IsOfRun (λ r. IsEndWords (names_in (spec_of checked.spec)) r.end words) script_text step
+  FaultTells Inconsistent script_text step words = IsOfRun (λ r. IsEndWords (names_in (spec_of checked.spec)) r.end words) script_text step
+  FaultTells Wrong script_text step words = IsOfRun (λ r. IsBroken checked links r.last words) script_text step
   FaultTells Deadlock script_text step words = words ≡ codes "deadlock"
 
   abbrev pub BadTells : BadRun → (words : List ℕ) → Type 0

@@ -9,22 +9,23 @@ ghost use Rattle.asm_meaning.specs.Value.{is_true};
 ghost use Rattle.asm_explore_texts.specs.Conditions.{IsJoined};
 ghost use Rattle.asm_explore_report.specs.FaultWords.{IsBroken, broken_words, value_in};
 
-use crate::value_text::push_value;
 use asm_by_code::by_code::value_by_code;
 use asm_check::Checked;
 use asm_explore_texts::conditions::parts;
 use asm_meaning::View;
+use asm_run::locations::push_value;
 use asm_state::state::State;
 use asm_state::value::Value;
+use asm_state::word::Word;
 use asm_syntax::term::Term;
 use asm_updates::summary::Summary;
 use std::alloc::{AllocError, Global};
 
 /// Whether the value is true.
-fn is_truth(value: Value) -> bool
+fn is_truth(value: Word) -> bool
     ensures { result ≡ is_true value }
 {
-    match value {
+    match value.value() {
         Value::Truth(truth) => truth,
         _ => false,
     }
@@ -36,15 +37,15 @@ fn value_of(
     checked: &Checked,
     state: &State,
     term: &Term,
-) -> Result<Value, AllocError>
+) -> Result<Word, AllocError>
     requires { length state.now ≡ count_of (shape_of (spec_of checked.now.spec)) }
     ensures { IfOk result (λ v. v ≡ value_in checked.now term.now (state_of (shape_of (spec_of checked.now.spec)) state.now)) }
 {
     let signature = checked.signature();
     let nothing = Summary::new(alloc, signature.count());
     let view = View::new(signature, state, &nothing);
-    let word = value_by_code(alloc, checked, &view, term)?;
-    Ok(word.value())
+    let value = value_by_code(alloc, checked, &view, term)?;
+    Ok(value)
 }
 
 /// The words for the condition with this number, which has this value.
@@ -52,12 +53,12 @@ fn words_for(
     alloc: Global,
     checked: &Checked,
     number: usize,
-    value: Value,
+    value: Word,
 ) -> Result<Vec<u8>, AllocError>
     ensures { IfOk result (λ words. words.items ≡ broken_words checked.now number value) }
 {
     let mut words = format!(in alloc; "condition {number} is ")?.into_bytes();
-    push_value(alloc, &mut words, checked, value)?;
+    push_value(&mut words, checked, value)?;
     Ok(words)
 }
 

@@ -1,22 +1,32 @@
 //! How a run that is shown ends.
 ghost use Rattle.std.specs.Prelude.{IfOk};
-ghost use Rattle.asm_explore_report.specs.RunEnds.{IsTraceOf};
+ghost use Rattle.std.specs.String.{string_bytes};
+ghost use Rattle.asm_syntax.specs.code.Views.{spec_of};
+ghost use Rattle.asm_reader.specs.ScriptLines.{Script};
+ghost use Rattle.asm_reader.specs.ScriptText.{IsScript};
+ghost use Rattle.asm_run.specs.Headline.{IsAccepted, book_run};
+ghost use Rattle.asm_run.specs.Written.{names_in};
+ghost use Rattle.asm_explore_report.specs.EndWords.{IsEndWords};
+ghost use Rattle.asm_explore_report.specs.FaultWords.{shown_after};
+ghost use Rattle.asm_explore_report.specs.RunEnds.{IsEndOf, IsTraceOf};
 
 use crate::ended::{EndedRun, ended_run};
 use crate::shown_run::{ShownRun, run_of};
+use asm_check::Checked;
 use asm_explore::{BadRun, Fault as StepFault};
 use asm_explore_words::fault::Fault;
-use asm_run::end::End;
+use asm_reader::{one_script, one_tree};
+use asm_run::end::EndKind;
 use asm_run::error::RunError;
 use std::alloc::Global;
 use std::thread::Threads;
 
-/// Whether a run that ended so shows such a fault in its last step.
-fn shows(end: End, fault: StepFault) -> bool {
+/// Whether a run with an end of this kind shows such a fault in its last step.
+fn shows(kind: EndKind, fault: StepFault) -> bool {
     match fault {
-        StepFault::Exhausted => matches!(end, End::Exhausted),
-        StepFault::Inconsistent => matches!(end, End::Clash | End::Outside),
-        StepFault::Wrong | StepFault::Deadlock => matches!(end, End::Limit),
+        StepFault::Exhausted => matches!(kind, EndKind::Exhausted),
+        StepFault::Inconsistent => matches!(kind, EndKind::Clash | EndKind::Outside),
+        StepFault::Wrong | StepFault::Deadlock => matches!(kind, EndKind::Limit),
     }
 }
 
@@ -28,7 +38,8 @@ pub(crate) fn made<'w, R: Threads + Sync>(
     turns: u32,
     run: ShownRun<'_>,
 ) -> Result<EndedRun, Fault<'w>>
-    ensures { IfOk result (λ ended. IsTraceOf text.now run.entry.script.now turns run.entry.steps ended.trace.items) }
+    ensures end { IfOk result (λ ended. IsEndOf text.now run.entry.script.now turns run.entry.steps ended.end) }
+    ensures trace { IfOk result (λ ended. IsTraceOf text.now run.entry.script.now turns run.entry.steps ended.trace.items) }
 {
     let Ok(steps) = u32::try_from(run.steps) else {
         return Err(Fault::Unconfirmed);
@@ -40,19 +51,26 @@ pub(crate) fn made<'w, R: Threads + Sync>(
     }
 }
 
-/// What the trace of the run under the script that was found says of its end: the kind, and what
-/// comes after the number of the step. The run ends as it was found to.
+/// The words for the end of the run under the script that was found, over the specification of the
+/// text. The run ends as it was found to.
 pub(crate) fn end_words<'w, R: Threads + Sync>(
     rt: &R,
     alloc: Global,
     text: &[u8],
+    checked: &Checked,
     turns: u32,
     bad: &BadRun,
-) -> Result<Vec<u8>, Fault<'w>> {
+) -> Result<Vec<u8>, Fault<'w>>
+    ensures { let s = spec_of checked.now.spec in
+        IsAccepted text.now s → (script : Script) → IsScript (string_bytes bad.now.script) script →
+        IfOk result (λ words. IsEndWords (names_in s) (book_run s turns script (shown_after bad.now.fault bad.now.step)).end words.items) }
+{
+    one_tree();
+    one_script();
     let ended = made(rt, alloc, text, turns, run_of(bad))?;
-    if !shows(ended.end, bad.fault) {
+    if !shows(ended.end.kind(), bad.fault) {
         return Err(Fault::Unconfirmed);
     }
-    let words = ended.words(alloc)?;
+    let words = ended.words(alloc, checked)?;
     Ok(words)
 }

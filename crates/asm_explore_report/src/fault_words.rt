@@ -13,6 +13,7 @@ ghost use Rattle.asm_check.specs.Shapes.{shape_of};
 ghost use Rattle.asm_reader.specs.ScriptLines as lines;
 ghost use Rattle.asm_reader.specs.ScriptText.{IsScript};
 ghost use Rattle.asm_meaning.specs.Declarations.{specification_of};
+ghost use Rattle.asm_run.specs.Headline.{IsAccepted};
 ghost use Rattle.asm_explore_texts.specs.Conditions.{IsJoined};
 ghost use Rattle.asm_explore_report.specs.Replay.{IsAfter};
 ghost use Rattle.asm_explore_report.specs.FaultWords.{BadTells, IsBroken, shown_after};
@@ -86,7 +87,8 @@ pub fn first_words<'w>(alloc: Global, subject: &Subject<'_>) -> Result<Vec<u8>, 
     Ok(words)
 }
 
-/// The words for a run that goes wrong. The run is made again.
+/// The words for a run that goes wrong of the specification with this text, which is that of the
+/// subject. The run is made again.
 pub fn bad_words<'w, R: Threads + Sync>(
     rt: &R,
     alloc: Global,
@@ -94,10 +96,10 @@ pub fn bad_words<'w, R: Threads + Sync>(
     subject: &Subject<'_>,
     bad: &BadRun,
 ) -> Result<Vec<u8>, Fault<'w>>
-    ensures { (links : List (Op × Code)) → IsJoined links subject.now.always.now →
+    ensures { (links : List (Op × Code)) → IsJoined links subject.now.always.now → IsAccepted text.now (spec_of subject.now.checked.now.spec) →
         IfOk result (λ words. BadTells subject.now.checked.now links subject.now.turns bad.now words.items) }
 {
-    let end = end_words(rt, alloc, text, subject.turns, bad)?;
+    let end = end_words(rt, alloc, text, subject.checked, subject.turns, bad)?;
     match bad.fault {
         StepFault::Exhausted | StepFault::Inconsistent => Ok(end),
         StepFault::Wrong => {

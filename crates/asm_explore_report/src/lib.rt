@@ -18,4 +18,3 @@ mod replay;
 pub mod report;
 pub mod shown_run;
 mod trace_lines;
-pub mod value_text;

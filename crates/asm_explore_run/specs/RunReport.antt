@@ -2,14 +2,15 @@
 --     status_of_end end               1 if the run ends before its limit, and else 0
 --     IsRunStatus end status          the same, or 6 instead of 0
 --     IsChoicesText                   a script with comments between its lines
---     IsPrintedOf                     some first comment, and such a script
---     AreChoicesReported              what is printed is a script with a line for each choice of
---                                     the run, under which the run is the same; where that has no
---                                     text, its first comment
---     assignments_in clash            the assignments by which a run ends, if it has such
+--     IsPrintedOf Tells               a first comment that tells this, and such a script
+--     AreChoicesReported              what is printed is how the run ends, in a comment, and a
+--                                     script with a line for each choice of the run, under which
+--                                     the run is the same; where that has no text, the comment
+--     assignments_in, count_in        the first assignments by which a run ends, if it has such, and
+--                                     how many there are
 --     IsClashReported                 comments: how the run ends, and one for each assignment by
 --                                     which it does, as many as fit into a script
-use Rattle.std.specs.Prelude.{◌≡◌, ◌⊎◌, ℕ, Bool, cond, List, [], length}
+use Rattle.std.specs.Prelude.{◌≡◌, ◌⊎◌, ℕ, Bool, cond, List, []}
 use Rattle.asm_syntax.specs.SourceTree.{Spec}
 use Rattle.asm_reader.specs.code.ExactLines.{exactly}
 use Rattle.asm_reader.specs.ScriptLines.{Line, Script}
@@ -19,16 +20,19 @@ use Rattle.asm_meaning.specs.Declarations.{specification_of}
 use Rattle.asm_meaning.specs.Run.{AtExhausted, AtFault, AtLimit, End, Run, run}
 use Rattle.asm_explore.specs.RunChoices.{AreChoices, lines_forward}
 use Rattle.asm_explore.specs.declared.outcomes.listed_outcome.Choice.{Choice}
-use Rattle.asm_run.specs.Headline.{IsAccepted}
+use Rattle.asm_run.specs.Headline.{IsAccepted, IsReturned}
+use Rattle.asm_run.specs.Written.{names_in}
 use Rattle.asm_run.specs.declared.end.End as shown
 use Rattle.asm_run.specs.declared.end.End.TheVariants.{Clash, Exhausted, Limit, Outside}
 use Rattle.asm_clash.specs.ClashOfRun.{EndsSo}
+use Rattle.asm_clash.specs.code.ReadByCode.{AreReadByCode}
 use Rattle.asm_clash.specs.declared.assignment.Assignment.{Assignment}
 use Rattle.asm_clash.specs.declared.clash.ClashOfRun.{ClashOfRun}
 use Rattle.asm_clash.specs.declared.clash.ClashOfRun.TheVariants as clash
 use Rattle.asm_explore_report.specs.Commented.{HasNoText, IsCommentedText, IsWithoutScript, said_by}
+use Rattle.asm_explore_report.specs.EndWords.{IsRunLine}
 use Rattle.asm_explore_report.specs.declared.commented.Entry.{Entry}
-use Rattle.asm_explore_run.specs.ClashText.{IsClashText}
+use Rattle.asm_explore_run.specs.ClashText.{IsClashText, greatest_shown}
 use Rattle.asm_explore_report.specs.declared.report.Report.{Report}
 use Rattle.asm_explore_words.specs.declared.settings.RunSettings.{RunSettings}
 
@@ -40,9 +44,9 @@ run_asked tree settings script = run (specification_of tree) settings.turns scri
 
 abbrev pub choices_status : shown.End → (all_met : Bool) → ℕ
 choices_status Limit all_met = cond all_met 0 6
-choices_status Clash all_met = 1
-choices_status Outside all_met = 1
-choices_status Exhausted all_met = 1
+choices_status (Clash i f vs least greatest) all_met = 1
+choices_status (Outside i f) all_met = 1
+choices_status (Exhausted i p) all_met = 1
 
 abbrev pub IsRunStatus : End → ℕ → Type 0
 IsRunStatus AtLimit status = (status ≡ 0) ⊎ (status ≡ 6)
@@ -52,7 +56,7 @@ IsRunStatus (AtFault step U) status = status ≡ 1
 abbrev pub clash_status : ClashOfRun → ℕ
 clash_status clash.Limit = 0
 clash_status (clash.Exhausted step q) = 1
-clash_status (clash.Faulty step fault found) = 1
+clash_status (clash.Faulty step fault found count) = 1
 
 abbrev pub status_of_end : End → ℕ
 status_of_end AtLimit = 0
@@ -69,11 +73,17 @@ IsChoicesText first lines text =
 abbrev pub assignments_in : ClashOfRun → List Assignment
 assignments_in clash.Limit = []
 assignments_in (clash.Exhausted step q) = []
-assignments_in (clash.Faulty step fault found) = found.items
+assignments_in (clash.Faulty step fault found count) = found.items
 
--- some first comment, and it spells the script, unless that has no text
-pub record IsPrintedOf (lines : List Line) (text : List ℕ) : Type 0 where
+abbrev pub count_in : ClashOfRun → ℕ
+count_in clash.Limit = 0
+count_in (clash.Exhausted step q) = 0
+count_in (clash.Faulty step fault found count) = count
+
+-- a first comment that tells this, and it spells the script, unless that has no text
+pub record IsPrintedOf (Tells : List ℕ → Type 0) (lines : List Line) (text : List ℕ) : Type 0 where
   pub first : List ℕ
+  pub tells : Tells first
   pub is : IsChoicesText first lines text
   pub says : IsUnrepeated (exactly lines) → IsScript text (exactly lines) ⊎ HasNoText first lines
 
@@ -85,7 +95,7 @@ module _ (text script_text : List ℕ) (settings : RunSettings) (report : Report
     pub spelled : IsScript script_text script
     pub steps : List (List Choice)
     pub choices : AreChoices tree settings.turns script settings.steps steps
-    pub printed : IsPrintedOf (lines_forward steps) report.text.items
+    pub printed : IsPrintedOf (IsRunLine (names_in tree) settings.steps (run_asked tree settings script).end) (lines_forward steps) report.text.items
     pub apart : IsUnrepeated (exactly (lines_forward steps))
     pub again : run_asked tree settings (exactly (lines_forward steps)) ≡ run_asked tree settings script
     pub status : IsRunStatus (run_asked tree settings script).end report.status
@@ -96,7 +106,11 @@ module _ (text script_text : List ℕ) (settings : RunSettings) (report : Report
     pub script : Script
     pub spelled : IsScript script_text script
     pub clash : ClashOfRun
-    pub ends : EndsSo tree settings.turns script (run_asked tree settings script) clash
+    pub ends : EndsSo tree settings.turns script greatest_shown (run_asked tree settings script) clash
+    pub reads : AreReadByCode tree settings.turns script greatest_shown (run_asked tree settings script) clash
+    pub end : shown.End
+    pub answered : IsReturned (run_asked tree settings script).end end
     pub first : List ℕ
-    pub printed : IsClashText first (length (assignments_in clash)) report.text.items
+    pub tells : IsRunLine (names_in tree) settings.steps (run_asked tree settings script).end first
+    pub printed : IsClashText (names_in tree) end first (assignments_in clash) (count_in clash) report.text.items
     pub status : report.status ≡ status_of_end (run_asked tree settings script).end

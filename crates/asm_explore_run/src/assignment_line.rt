@@ -1,108 +1,132 @@
 //! What is said of an assignment.
-use crate::choose_line::push_values;
+ghost use Rattle.std.specs.Prelude.{◌≡◌, ◌++◌, ◌∷◌, [], ℕ, List, Option, OnOk, IfOk};
+ghost use Rattle.asm_syntax.specs.code.Views.{spec_of};
+ghost use Rattle.asm_run.specs.Written.{names_in};
+ghost use Rattle.asm_explore_run.specs.ClashText.{IsLineOf, bound_text, located};
+
 use asm_check::Checked;
 use asm_clash::assignment::Assignment;
-use asm_explore_report::value_text::push_value;
-use asm_explore_texts::path_text::{push_path, push_position};
+use asm_explore_texts::path_text::push_position;
 use asm_explore_texts::rule_in_text::{RuleInText, rule_in_text};
+use asm_run::end::End;
+use asm_run::locations::{push_location, push_path, push_value};
 use asm_state::word::Word;
 use asm_syntax::name::Name;
 use std::alloc::{AllocError, Global};
 
-/// Says of the assignment at a path of the main rule where it is in the text, at which location
-/// it puts which value, and which values the names have that are bound there, the innermost first.
-/// If it is one to `result`, it puts it at this location.
+/// Says of an assignment of the main rule where it is in the text, at which location it puts which
+/// value in a run that ends so, and which values the names have that are bound there, the innermost
+/// first.
 pub(crate) fn assignment_line(
     alloc: Global,
     text: &[u8],
     checked: &Checked,
     assignment: &Assignment,
-    location: &[u8],
-) -> Result<Vec<u8>, AllocError> {
+    end: &End,
+) -> Result<Vec<u8>, AllocError>
+    ensures { let names = names_in (spec_of checked.now.spec) in
+        IfOk result (λ line. IsLineOf names end.now assignment.now line.items) }
+{
     let path = assignment.path.as_slice();
-    let mut line = Vec::new(alloc);
-    let place = rule_in_text(alloc, checked, path)?;
-    if let Some(place) = &place {
-        push_position(alloc, &mut line, text, place.name.at)?;
-        line.extend_from_slice(b", ")?;
-    }
+    let rule = rule_in_text(alloc, checked, path)?;
+    let mut line = place_of(alloc, text, &rule)?;
     line.extend_from_slice(b"place ")?;
-    push_path(alloc, &mut line, path)?;
+    push_path(&mut line, path)?;
     line.extend_from_slice(b": ")?;
-    push_location(
-        alloc,
-        &mut line,
-        checked,
-        &place,
-        assignment.arguments.as_slice(),
-        location,
-    )?;
+    push_located(&mut line, checked, end, assignment.arguments.as_slice())?;
     line.extend_from_slice(b" := ")?;
-    push_value(alloc, &mut line, checked, assignment.value.value())?;
-    if let Some(place) = &place {
-        push_bound(
-            alloc,
-            &mut line,
-            checked,
-            place,
-            assignment.bound.as_slice(),
-        )?;
-    }
+    push_value(&mut line, checked, assignment.value)?;
+    push_all_bound(&mut line, checked, &rule, assignment.bound.as_slice())?;
     Ok(line)
 }
 
-/// Adds the location that an assignment names: of `result` this one, and else by the arguments.
-fn push_location(
+/// Where a rule is in the text, if something of it is there.
+fn place_of(
     alloc: Global,
-    line: &mut Vec<u8>,
-    checked: &Checked,
-    place: &Option<RuleInText<'_>>,
-    arguments: &[Word],
-    location: &[u8],
-) -> Result<(), AllocError> {
-    if let Some(place) = place {
-        let name = place.name.text.as_bytes();
-        if name == b"result".as_slice() {
-            return line.extend_from_slice(location);
-        }
-        line.extend_from_slice(name)?;
+    text: &[u8],
+    rule: &Option<RuleInText<'_>>,
+) -> Result<Vec<u8>, AllocError> {
+    let mut place = Vec::new(alloc);
+    if let Some(rule) = rule {
+        push_position(alloc, &mut place, text, rule.name.at)?;
+        place.extend_from_slice(b", ")?;
     }
-    push_arguments(alloc, line, checked, arguments)
+    Ok(place)
 }
 
-/// Adds arguments in brackets, if there are any.
-fn push_arguments(
-    alloc: Global,
+/// Adds the location at which an assignment with these arguments puts its value, in a run that ends
+/// so.
+fn push_located(
     line: &mut Vec<u8>,
     checked: &Checked,
+    end: &End,
     arguments: &[Word],
-) -> Result<(), AllocError> {
-    if arguments.is_empty() {
-        return Ok(());
+) -> Result<(), AllocError>
+    ensures { let names = names_in (spec_of checked.now.spec) in
+        OnOk result (line.new.items ≡ line.old.items ++ located names end.now arguments.now) }
+{
+    match end {
+        End::Clash {
+            function,
+            arguments: own,
+            ..
+        } => push_location(line, checked, *function, own.as_slice()),
+        End::Outside { function, .. } => push_location(line, checked, *function, arguments),
+        End::Limit | End::Exhausted { .. } => Ok(()),
     }
-    line.push(b'(')?;
-    push_values(alloc, line, checked, arguments)?;
-    line.push(b')')?;
+}
+
+/// Adds the names that are bound in a rule and not hidden, each with its value.
+fn push_all_bound(
+    line: &mut Vec<u8>,
+    checked: &Checked,
+    rule: &Option<RuleInText<'_>>,
+    values: &[Word],
+) -> Result<(), AllocError>
+    ensures { let names = names_in (spec_of checked.now.spec) in
+        OnOk result ((bound : List (Option (List ℕ))) × line.new.items ≡ line.old.items ++ bound_text names bound values.now) }
+{
+    match rule {
+        Some(rule) => push_bound(line, checked, rule.bound.as_slice(), values),
+        None => Ok(()),
+    }
+}
+
+/// Adds these names as far as they aren't hidden, each with its value.
+fn push_bound(
+    line: &mut Vec<u8>,
+    checked: &Checked,
+    names: &[&Name],
+    values: &[Word],
+) -> Result<(), AllocError>
+    ensures { let names_there = names_in (spec_of checked.now.spec) in
+        OnOk result ((bound : List (Option (List ℕ))) × line.new.items ≡ line.old.items ++ bound_text names_there bound values.now) }
+{
+    for i in 0..names.len().min(values.len()) {
+        let is_hidden = is_among(&names[..i], names[i]);
+        push_if_shown(line, checked, is_hidden, names[i], &values[i])?;
+    }
     Ok(())
 }
 
-/// Adds the names that are bound and not hidden, each with its value.
-fn push_bound(
-    alloc: Global,
+/// Adds a name with its value, unless it is hidden.
+fn push_if_shown(
     line: &mut Vec<u8>,
     checked: &Checked,
-    place: &RuleInText<'_>,
-    values: &[Word],
-) -> Result<(), AllocError> {
-    let names = place.bound.as_slice();
-    for i in 0..names.len().min(values.len()) {
-        if !is_among(&names[..i], names[i]) {
-            line.extend_from_slice(b", ")?;
-            line.extend_from_slice(names[i].text.as_bytes())?;
-            line.extend_from_slice(b" = ")?;
-            push_value(alloc, line, checked, values[i].value())?;
-        }
+    is_hidden: bool,
+    name: &Name,
+    value: &Word,
+) -> Result<(), AllocError>
+    ensures { let names = names_in (spec_of checked.now.spec) in
+        OnOk result ((shown : Option (List ℕ)) × line.new.items ≡ line.old.items ++ bound_text names (shown ∷ []) (value.now ∷ [])) }
+{
+    if is_hidden {
+        return Ok(());
     }
+    line.extend_from_slice(b", ")?;
+    line.extend_from_slice(name.text.as_bytes())?;
+    line.extend_from_slice(b" = ")?;
+    push_value(line, checked, *value)?;
     Ok(())
 }
 

@@ -9,7 +9,10 @@ ghost use Rattle.asm_reader.specs.ScriptText.{IsScript};
 ghost use Rattle.asm_explore.specs.RunChoices.{AreChoices, MakesTheRun, choices_in, lines_forward};
 ghost use Rattle.asm_explore.specs.code.WrittenScripts.{lines_said};
 ghost use Rattle.asm_explore_report.specs.Commented.{HasNoText, said_by};
-ghost use Rattle.asm_run.specs.Headline.{IsAccepted};
+ghost use Rattle.asm_meaning.specs.Run as runs;
+ghost use Rattle.asm_run.specs.Headline.{IsAccepted, IsReturned};
+ghost use Rattle.asm_run.specs.Written.{names_in};
+ghost use Rattle.asm_explore_report.specs.EndWords.{IsRunLine};
 ghost use Rattle.asm_explore_run.specs.RunReport.{AreChoicesReported, IsChoicesText, IsPrintedOf, choices_status};
 
 use crate::choose_line::choose_line;
@@ -33,12 +36,12 @@ use std::thread::Threads;
 const MAX_LINES: usize = 349_525;
 
 /// The status of a run that ends so, if all lines of the script were met, or if some weren't.
-fn status_of(end: End, all_met: bool) -> u8
-    ensures { result ≡ choices_status end all_met }
+fn status_of(end: &End, all_met: bool) -> u8
+    ensures { result ≡ choices_status end.now all_met }
 {
     match end {
         End::Limit => { if all_met { 0 } else { 6 } }
-        End::Clash | End::Outside | End::Exhausted => 1,
+        End::Clash { .. } | End::Outside { .. } | End::Exhausted { .. } => 1,
     }
 }
 
@@ -141,12 +144,14 @@ fn reported<'w>(
     run: &RunChoices,
     ended: &EndedRun,
 ) -> Result<Report, AllocError>
-    ensures printed { IfOk result (λ report. IsPrintedOf (lines_forward (choices_in run.now)) report.text.items) }
+    ensures printed { let names = names_in (spec_of checked.now.spec) in
+        (e : runs.End) → IsReturned e ended.now.end →
+        IfOk result (λ report. IsPrintedOf (IsRunLine names settings.now.steps e) (lines_forward (choices_in run.now)) report.text.items) }
     ensures status { IfOk result (λ report. (all_met : Bool) × report.status ≡ choices_status ended.now.end all_met) }
 {
-    let first = ended.line(alloc, settings.steps)?;
+    let first = ended.line(alloc, checked, settings.steps)?;
     let unmet = unmet_lines(alloc, script_text, run)?;
-    let status = status_of(ended.end, unmet.is_empty());
+    let status = status_of(&ended.end, unmet.is_empty());
     let text = printed(
         alloc,
         text,

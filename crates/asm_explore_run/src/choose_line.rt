@@ -1,8 +1,8 @@
 //! The comment for a choice.
 use asm_check::Checked;
-use asm_explore_report::value_text::push_value;
 use asm_explore_texts::path_text::{push_path, push_position};
 use asm_explore_texts::rule_in_text::rule_in_text;
+use asm_run::locations::push_value;
 use asm_state::word::Word;
 use asm_syntax::name::Name;
 use asm_syntax::rule::Rule;
@@ -66,7 +66,7 @@ fn push_candidates(
     candidates: &[Word],
 ) -> Result<(), AllocError> {
     let shown = candidates.len().min(MAX_CANDIDATES_SHOWN);
-    push_values(alloc, line, checked, &candidates[..shown])?;
+    push_values(line, checked, &candidates[..shown])?;
     let more = candidates.len() - shown;
     if more > 0 {
         line.extend_from_slice(format!(in alloc; ", and {more} more")?.as_bytes())?;
@@ -75,17 +75,12 @@ fn push_candidates(
 }
 
 /// Adds values, with a comma between each two.
-pub(crate) fn push_values(
-    alloc: Global,
-    line: &mut Vec<u8>,
-    checked: &Checked,
-    values: &[Word],
-) -> Result<(), AllocError> {
+fn push_values(line: &mut Vec<u8>, checked: &Checked, values: &[Word]) -> Result<(), AllocError> {
     for i in 0..values.len() {
         if i > 0 {
             line.extend_from_slice(b", ")?;
         }
-        push_value(alloc, line, checked, values[i].value())?;
+        push_value(line, checked, values[i])?;
     }
     Ok(())
 }

@@ -1,14 +1,18 @@
 //! What is printed of the assignments by which a run ends.
-ghost use Rattle.std.specs.Prelude.{◌≡◌, ℕ, List, length, IfOk};
+ghost use Rattle.std.specs.Prelude.{◌≡◌, ℕ, List, length, min, IfOk};
 ghost use Rattle.asm_syntax.specs.code.Views.{spec_of};
 ghost use Rattle.asm_reader.specs.ScriptLines.{Script};
 ghost use Rattle.asm_reader.specs.ScriptText.{IsScript};
-ghost use Rattle.asm_run.specs.Headline.{IsAccepted};
+ghost use Rattle.asm_meaning.specs.Run as runs;
+ghost use Rattle.asm_run.specs.Headline.{IsAccepted, IsReturned};
+ghost use Rattle.asm_explore_report.specs.EndWords.{IsRunLine};
 ghost use Rattle.asm_clash.specs.ClashOfRun.{EndsSo};
-ghost use Rattle.asm_explore_run.specs.ClashText.{IsClashText};
-ghost use Rattle.asm_explore_run.specs.RunReport.{IsClashReported, assignments_in, clash_status, run_asked};
+ghost use Rattle.asm_clash.specs.code.ReadByCode.{AreReadByCode};
+ghost use Rattle.asm_run.specs.Written.{names_in};
+ghost use Rattle.asm_explore_run.specs.ClashText.{IsClashText, greatest_shown};
+ghost use Rattle.asm_explore_run.specs.RunReport.{IsClashReported, assignments_in, clash_status, count_in, run_asked};
 
-use crate::clash_text::clash_text;
+use crate::clash_text::{MAX_SHOWN, clash_text};
 use crate::run_end::ended;
 use asm_check::Checked;
 use asm_clash::assignment::Assignment;
@@ -19,6 +23,7 @@ use asm_explore_report::report::Report;
 use asm_explore_texts::script_given::script_given;
 use asm_explore_words::fault::Fault;
 use asm_explore_words::settings::RunSettings;
+use asm_reader::{one_script, one_tree};
 use std::alloc::{AllocError, Global};
 use std::thread::Threads;
 
@@ -42,6 +47,16 @@ fn assignments(clash: &ClashOfRun) -> &[Assignment]
     }
 }
 
+/// How many assignments there are by which a run ends.
+fn count_of(clash: &ClashOfRun) -> u64
+    ensures { result ≡ count_in clash.now }
+{
+    match clash {
+        ClashOfRun::Faulty { count, .. } => *count,
+        ClashOfRun::Limit | ClashOfRun::Exhausted { .. } => 0,
+    }
+}
+
 /// How the run of a specification ends that the settings ask for, and by which assignments.
 fn clash_of<'w>(
     alloc: Global,
@@ -51,10 +66,13 @@ fn clash_of<'w>(
 ) -> Result<ClashOfRun, Fault<'w>>
     ensures { let tree = spec_of checked.now.spec in
         IfOk result (λ clash. (script : Script) × IsScript script_text.now script ×
-        EndsSo tree settings.now.turns script (run_asked tree settings.now script) clash) }
+        EndsSo tree settings.now.turns script greatest_shown (run_asked tree settings.now script) clash ×
+        AreReadByCode tree settings.now.turns script greatest_shown (run_asked tree settings.now script) clash) }
 {
     let script = script_given(alloc, script_text, settings)?;
-    let clash = clash_of_run(alloc, checked, settings.turns, &script, settings.steps)?;
+    let turns = settings.turns;
+    let steps = settings.steps;
+    let clash = clash_of_run(alloc, checked, turns, &script, steps, MAX_SHOWN)?;
     Ok(clash)
 }
 
@@ -67,12 +85,23 @@ fn printed<'w>(
     clash: &ClashOfRun,
     ended: &EndedRun,
 ) -> Result<Vec<u8>, AllocError>
-    ensures { IfOk result (λ text. (first : List ℕ) × IsClashText first (length (assignments_in clash.now)) text.items) }
+    requires { length (assignments_in clash.now) ≡ min greatest_shown (count_in clash.now) }
+    ensures { let names = names_in (spec_of checked.now.spec) in
+        (e : runs.End) → IsReturned e ended.now.end →
+        IfOk result (λ text. (first : List ℕ) × IsRunLine names settings.now.steps e first × IsClashText names ended.now.end first (assignments_in clash.now) (count_in clash.now) text.items) }
 {
-    let first = ended.line(alloc, settings.steps)?;
-    let location = ended.location(alloc)?;
-    let shown = assignments(clash);
-    let text = clash_text(alloc, text, checked, first.as_slice(), shown, location)?;
+    let first = ended.line(alloc, checked, settings.steps)?;
+    let found = assignments(clash);
+    let count = count_of(clash);
+    let text = clash_text(
+        alloc,
+        text,
+        checked,
+        first.as_slice(),
+        &ended.end,
+        found,
+        count,
+    )?;
     Ok(text)
 }
 
@@ -88,6 +117,8 @@ fn report_of<'w, R: Threads + Sync>(
     requires accepted { IsAccepted text.now (spec_of checked.now.spec) }
     ensures { IfOk result (IsClashReported text.now script_text.now settings.now) }
 {
+    one_tree();
+    one_script();
     let clash = clash_of(alloc, checked, script_text, settings)?;
     let ended = ended(rt, alloc, text, script_text, settings)?;
     let text = printed(alloc, text, checked, settings, &clash, &ended)?;

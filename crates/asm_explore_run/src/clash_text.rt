@@ -1,18 +1,25 @@
 //! The text of the assignments by which a run ends.
-ghost use Rattle.std.specs.Prelude.{◌≡◌, ◌∷◌, ◌+◌, ◌++◌, ◌<◌, ◌≤◌, [], length, IfOk, OnOk, IsFalse, IsTrue};
+ghost use Rattle.std.specs.Prelude.{◌≡◌, ◌∷◌, ◌+◌, ◌++◌, ◌<◌, ◌≤◌, [], length, min, IfOk, OnOk, IsFalse, IsTrue};
 ghost use Rattle.asm_reader.specs.ScriptText.{max_script};
 ghost use Rattle.asm_explore_report.specs.Comments.{comment, comments as comments_of};
-ghost use Rattle.asm_explore_run.specs.ClashText.{IsClashText, more};
+ghost use Rattle.asm_explore_run.specs.ClashText.{IsClashText, greatest_shown, more};
+ghost use Rattle.asm_run.specs.Written.{names_in};
+ghost use Rattle.asm_syntax.specs.code.Views.{spec_of};
 
 use crate::assignment_line::assignment_line;
 use asm_check::Checked;
 use asm_clash::assignment::Assignment;
 use asm_explore_report::comment::{add_comment, comments};
 use asm_reader::MAX_SCRIPT;
+use asm_run::end::End;
 use std::alloc::{AllocError, Global};
 
+/// How many assignments are listed: the comments for so many don't fit into a script, since each
+/// has 15 bytes at least.
+pub(crate) const MAX_SHOWN: usize = 69_906;
+
 /// Adds a comment for so many assignments that aren't shown, if there are any.
-fn add_rest(alloc: Global, text: &mut Vec<u8>, rest: usize) -> Result<(), AllocError>
+fn add_rest(alloc: Global, text: &mut Vec<u8>, rest: u64) -> Result<(), AllocError>
     ensures { OnOk result (text.new.items ≡ text.old.items ++ comments_of (more rest)) }
 {
     if rest == 0 {
@@ -35,7 +42,7 @@ fn add_if_it_fits(
     alloc: Global,
     text: &mut Vec<u8>,
     line: &[u8],
-    rest: usize,
+    rest: u64,
 ) -> Result<bool, AllocError>
     ensures added { IfOk result (λ fits. IsTrue fits → (text.new.items ≡ text.old.items ++ comment line.now) × (length (text.new.items ++ comments_of (more rest)) ≤ max_script)) }
     ensures left { IfOk result (λ fits. IsFalse fits → (text.new.items ≡ text.old.items) × (max_script < length ((text.old.items ++ comment line.now) ++ comments_of (more rest)))) }
@@ -51,22 +58,25 @@ fn add_if_it_fits(
     Ok(false)
 }
 
-/// A first comment, and one for each assignment, as many as fit into a script. Those to `result`
-/// are at this location.
+/// A first comment, and one for each of so many assignments by which a run ends, as many as fit
+/// into a script; these are the first of them.
 pub(crate) fn clash_text(
     alloc: Global,
     text: &[u8],
     checked: &Checked,
     first: &[u8],
+    end: &End,
     assignments: &[Assignment],
-    location: &[u8],
+    count: u64,
 ) -> Result<Vec<u8>, AllocError>
-    ensures { IfOk result (λ text. IsClashText first.now (length assignments.now) text.items) }
+    requires { length assignments.now ≡ min greatest_shown count }
+    ensures { let names = names_in (spec_of checked.now.spec) in
+        IfOk result (λ text. IsClashText names end.now first.now assignments.now count text.items) }
 {
     let mut shown = comments(alloc, first, &[])?;
     for k in 0..assignments.len() {
-        let line = assignment_line(alloc, text, checked, &assignments[k], location)?;
-        let rest = assignments.len() - k;
+        let line = assignment_line(alloc, text, checked, &assignments[k], end)?;
+        let rest = count - k as u64;
         let fits = add_if_it_fits(alloc, &mut shown, line.as_slice(), rest - 1)?;
         if !fits {
             add_rest(alloc, &mut shown, rest)?;

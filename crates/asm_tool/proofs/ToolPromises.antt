@@ -1,6 +1,6 @@
 -- Free. What is written, and what a fault says, from what the result of the run says.
 use Rattle.std.proofs.Common.{◌≡◌, ◌≤◌, ◌<◌, ◌⊎◌, ◌∙◌, ℕ, true, false, List, [], Option, None, Some, append-nil, codes, inl, inr, refl, sym, subst, arith}
-use Rattle.std.specs.Prelude.{◌≢◌, ◌↔◌, ◌||◌, Bool, Err, IfErr, IfOk, IfSome, IsTrue, Ok, Result, length, option_map, take}
+use Rattle.std.specs.Prelude.{◌↔◌, ◌||◌, Bool, Err, IfErr, IfOk, IfSome, IsTrue, Ok, Result, length, option_map, take}
 use Rattle.std.proofs.lemmas.Bool.{cases_lt}
 use Rattle.std.proofs.lemmas.List.{take_all}
 use Rattle.std.specs.Io.KnownBytes.{Appends, Keeps}
@@ -112,16 +112,16 @@ module _ (old mid new : Option (List ℕ)) (kept : Keeps mid new) where
 
 -- A sink that failed in a run stays failed when what it keeps back is handed on.
 pub run_failed : (text script_text : List ℕ) (limits : Limits) (old mid : Option (List ℕ)) → are_in_range limits ≡ true
-    → (e : RunError) → run.Explains text script_text limits old mid e
-    → (a b c : Bool) → (IsTrue a ↔ (Err {End} e ≡ Err error.Write)) → b ≡ (a || c) → run_fault e ≡ Write → IsTrue b
-run_failed text script_text limits old mid ranges (error.Read e) h a b c failed new is = cc
-run_failed text script_text limits old mid ranges (error.Check e) h a b c failed new is = cc
-run_failed text script_text limits old mid ranges (error.Script e) h a b c failed new is = cc
-run_failed text script_text limits old mid ranges error.Limits h a b c failed new is =
+    → (e : RunError) → run.Explains text script_text limits old mid e → (r : Result End RunError) → r ≡ Err e
+    → (a b c : Bool) → (IsTrue a ↔ (r ≡ Err error.Write)) → b ≡ (a || c) → run_fault e ≡ Write → IsTrue b
+run_failed text script_text limits old mid ranges (error.Read e) h r answer a b c failed new is = cc
+run_failed text script_text limits old mid ranges (error.Check e) h r answer a b c failed new is = cc
+run_failed text script_text limits old mid ranges (error.Script e) h r answer a b c failed new is = cc
+run_failed text script_text limits old mid ranges error.Limits h r answer a b c failed new is =
     let no : are_in_range limits ≡ false = h.4 in absurd cc
-run_failed text script_text limits old mid ranges error.Memory h a b c failed new is = cc
-run_failed text script_text limits old mid ranges error.Write h a b c failed new is =
-    let a_failed : a ≡ true = failed.1 refl in rw (new, a_failed) refl
+run_failed text script_text limits old mid ranges error.Memory h r answer a b c failed new is = cc
+run_failed text script_text limits old mid ranges error.Write h r answer a b c failed new is =
+    let a_failed : a ≡ true = failed.1 answer in rw (new, a_failed) refl
 
 -- A sink that can't hand on what it keeps back has failed.
 pub finish_failed : (a b : Bool) → b ≡ (a || true) → IsTrue b
@@ -264,10 +264,6 @@ ends_low Limit = omega arith
 ends_low Clash = omega arith
 ends_low Outside = omega arith
 ends_low Exhausted = omega arith
-
-pub reads_low : (r : ReadFault) → status_of (read_fault r) ≤ 3
-reads_low unread.Memory = omega arith
-reads_low unread.File = omega arith
 
 pub faults_high : (fault : Fault) → 2 ≤ status_of fault
 faults_high (Read e) = omega arith

@@ -7,7 +7,7 @@
 --                                                   before; 2: one of the texts is refused
 --     OfWords words contents input P                P holds of the texts that the words name
 --     TellsOfWords words contents input status      what the status tells of them
-use Rattle.std.specs.Prelude.{◌≡◌, ◌≢◌, ◌≤◌, ◌⊎◌, ℕ, List, [], Option, None, Some, IfSome, Ok, Err, Result, codes}
+use Rattle.std.specs.Prelude.{◌≡◌, ◌≢◌, ◌≤◌, ◌⊎◌, ℕ, List, [], Option, Some, IfSome, Ok, Err, Result, codes}
 use Rattle.clap.specs.Simple.{matches_of}
 use Rattle.clap.specs.Walk.{Row, Text, first_of}
 use Rattle.asm_run.specs.ResultsTell.{EndsEarly, IsRefused, MakesAllSteps}

@@ -2,8 +2,8 @@
 --     coded                       what the code of a rule yields in a state, from the top on
 --     coded_at                    the assignments whose updates stand in it at the location of a
 --                                 fault
---     IsStepEnd                   a consistent set, no set, or a set with a first fault, and the
---                                 assignments at its location
+--     IsStepEnd most              a consistent set, no set, or a set with a first fault, and the
+--                                 first assignments at its location, at most so many
 use Rattle.std.specs.Prelude.{◌≡◌, ℕ, List, []}
 use Rattle.asm_state.specs.Location.{State}
 use Rattle.asm_state.specs.Signature.{Shape}
@@ -15,7 +15,8 @@ use Rattle.asm_meaning.specs.Yields.{Path, Result, Gives, Exhausted}
 use Rattle.asm_code.specs.code.RuleMeaning.{meaning}
 use Rattle.asm_code.specs.code.RuleTree.{RuleCode}
 use Rattle.asm_clash.specs.ClashOfRun.{location_of}
-use Rattle.asm_clash.specs.Standing.{Assigned, all_assigned}
+use Rattle.asm_clash.specs.code.BoundValues.{Detailed}
+use Rattle.asm_clash.specs.code.FirstFound.{IsFound}
 use Rattle.asm_clash.specs.code.StandingCodes.{standing}
 use Rattle.asm_clash.specs.declared.step_end.StepEnd.{StepEnd}
 use Rattle.asm_clash.specs.declared.step_end.StepEnd.TheVariants as made
@@ -24,10 +25,10 @@ module _ (shape : Shape) (turns : ℕ) (chosen : Path → ℕ) (R : RuleCode) (A
   abbrev pub coded : Result
   coded = (meaning shape turns chosen R [] [] A []).result
 
-  abbrev pub coded_at : Fault → List Assigned
-  coded_at fault = standing shape turns chosen (location_of shape fault) R [] [] A []
+  abbrev pub coded_at : Fault → List Detailed
+  coded_at fault = standing shape turns chosen (location_of shape fault) R [] [] [] A []
 
-  abbrev pub IsStepEnd : StepEnd → Type 0
-  IsStepEnd (made.Consistent set) = (U : UpdateSet) × (coded ≡ Gives U) × IsConsistent U × Stands shape set U
-  IsStepEnd (made.Exhausted q) = coded ≡ Exhausted q
-  IsStepEnd (made.Faulty fault found) = (U : UpdateSet) × (coded ≡ Gives U) × IsFirstFault U (fault_of shape fault) × (all_assigned found.items ≡ coded_at fault)
+  abbrev pub IsStepEnd : (most : ℕ) → StepEnd → Type 0
+  IsStepEnd most (made.Consistent set) = (U : UpdateSet) × (coded ≡ Gives U) × IsConsistent U × Stands shape set U
+  IsStepEnd most (made.Exhausted q) = coded ≡ Exhausted q
+  IsStepEnd most (made.Faulty fault found) = (U : UpdateSet) × (coded ≡ Gives U) × IsFirstFault U (fault_of shape fault) × IsFound most (coded_at fault) found

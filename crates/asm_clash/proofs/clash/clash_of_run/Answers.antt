@@ -1,4 +1,4 @@
-use Rattle.std.proofs.Common.{◌≡◌, ◌+◌, ◌∙◌, sym, ap, subst}
+use Rattle.std.proofs.Common.{◌≡◌, ◌+◌, ◌∙◌, refl, sym, ap, subst}
 use Rattle.asm_state.specs.Signature.{Shape, count_of, initial_state, state_of}
 use Rattle.asm_reader.specs.ScriptLines.{pick}
 use Rattle.asm_syntax.specs.code.Views.{spec_of}
@@ -9,7 +9,7 @@ use Rattle.asm_code.specs.code.RuleViews.{rule_of}
 use Rattle.asm_clash.specs.code.StepEnds.{IsStepEnd}
 use Rattle.asm_clash.specs.declared.step_end.StepEnd.TheVariants as made
 use Rattle.asm_clash.proofs.Runs.{rest_begin}
-use Rattle.asm_clash.proofs.Steps.{goes_on, ends_exhausted, ends_faulty}
+use Rattle.asm_clash.proofs.Steps.{goes_on, ends_exhausted, ends_faulty, ends_read}
 use Rattle.asm_clash.proofs.clash.clash_of_run.Goals as goal
 
 pub loop-done-init : goal.loop-done-init
@@ -29,31 +29,44 @@ step_end_from-requires-clause-whole c = c.loop-done.invariant.whole ∙ ap count
 pub step_end_from-requires-clause-sound : goal.step_end_from-requires-clause-sound
 step_end_from-requires-clause-sound c = subst (λ (sh : Shape). IsSoundRule sh (rule_of c.in_ok-main.main)) (sym c.signature-signature.ensures) c.in_ok-main.ensures.sound
 
-pub returns-in-Exhausted : goal.returns-in-Exhausted
-returns-in-Exhausted c =
+pub returns-in-Exhausted-clause-ends : goal.returns-in-Exhausted-clause-ends
+returns-in-Exhausted-clause-ends c =
     let a = c.args in
     let s = spec_of a.checked.now.spec in
     let l = c.loop-done in
     let chosen = pick a.script.now (c.from-step.result + 1) in
     let R = rule_of c.in_ok-main.main in
-    let there : IsStepEnd (shape_of s) a.turns chosen R (state_of (shape_of s) l.state) c.in_ok-step_end.step_end =
-    subst (λ (sh : Shape). IsStepEnd sh a.turns chosen R (state_of sh l.state) c.in_ok-step_end.step_end) c.signature-signature.ensures c.in_ok-step_end.ensures in
+    let there : IsStepEnd (shape_of s) a.turns chosen R (state_of (shape_of s) l.state) a.most c.in_ok-step_end.step_end =
+    subst (λ (sh : Shape). IsStepEnd sh a.turns chosen R (state_of sh l.state) a.most c.in_ok-step_end.step_end) c.signature-signature.ensures c.in_ok-step_end.ensures in
     ends_exhausted c.resolving_laws.ensures s a.turns a.script.now a.steps l.done (c.from-step.result + 1) (state_of (shape_of s) l.state) R c.in_ok-main.ensures
-    (ap (λ k. k + 1) c.from-step.ensures) c.loop-done-test.true l.invariant.rest c.in-Exhausted.path
-    (subst (IsStepEnd (shape_of s) a.turns chosen R (state_of (shape_of s) l.state)) c.in-Exhausted.is there)
+    (ap (λ k. k + 1) c.from-step.ensures) c.loop-done-test.true l.invariant.rest a.most c.in-Exhausted.path
+    (subst (IsStepEnd (shape_of s) a.turns chosen R (state_of (shape_of s) l.state) a.most) c.in-Exhausted.is there)
 
-pub returns-in-Faulty : goal.returns-in-Faulty
-returns-in-Faulty c =
+pub returns-in-Faulty-clause-ends : goal.returns-in-Faulty-clause-ends
+returns-in-Faulty-clause-ends c =
     let a = c.args in
     let s = spec_of a.checked.now.spec in
     let l = c.loop-done in
     let chosen = pick a.script.now (c.from-step.result + 1) in
     let R = rule_of c.in_ok-main.main in
-    let there : IsStepEnd (shape_of s) a.turns chosen R (state_of (shape_of s) l.state) c.in_ok-step_end.step_end =
-    subst (λ (sh : Shape). IsStepEnd sh a.turns chosen R (state_of sh l.state) c.in_ok-step_end.step_end) c.signature-signature.ensures c.in_ok-step_end.ensures in
+    let there : IsStepEnd (shape_of s) a.turns chosen R (state_of (shape_of s) l.state) a.most c.in_ok-step_end.step_end =
+    subst (λ (sh : Shape). IsStepEnd sh a.turns chosen R (state_of sh l.state) a.most c.in_ok-step_end.step_end) c.signature-signature.ensures c.in_ok-step_end.ensures in
     ends_faulty c.resolving_laws.ensures s a.turns a.script.now a.steps l.done (c.from-step.result + 1) (state_of (shape_of s) l.state) R c.in_ok-main.ensures
-    (ap (λ k. k + 1) c.from-step.ensures) c.loop-done-test.true l.invariant.rest c.in-Faulty.fault c.in-Faulty.assignments
-    (subst (IsStepEnd (shape_of s) a.turns chosen R (state_of (shape_of s) l.state)) c.in-Faulty.is there)
+    (ap (λ k. k + 1) c.from-step.ensures) c.loop-done-test.true l.invariant.rest a.most c.in-Faulty.fault c.in-Faulty.found c.in-Faulty.found.first c.in-Faulty.found.count refl refl
+    (subst (IsStepEnd (shape_of s) a.turns chosen R (state_of (shape_of s) l.state) a.most) c.in-Faulty.is there)
+
+pub returns-in-Faulty-clause-reads : goal.returns-in-Faulty-clause-reads
+returns-in-Faulty-clause-reads c =
+    let a = c.args in
+    let s = spec_of a.checked.now.spec in
+    let l = c.loop-done in
+    let chosen = pick a.script.now (c.from-step.result + 1) in
+    let R = rule_of c.in_ok-main.main in
+    let there : IsStepEnd (shape_of s) a.turns chosen R (state_of (shape_of s) l.state) a.most c.in_ok-step_end.step_end =
+    subst (λ (sh : Shape). IsStepEnd sh a.turns chosen R (state_of sh l.state) a.most c.in_ok-step_end.step_end) c.signature-signature.ensures c.in_ok-step_end.ensures in
+    ends_read c.resolving_laws.ensures s a.turns a.script.now a.steps l.done (c.from-step.result + 1) (state_of (shape_of s) l.state) R c.in_ok-main.ensures
+    (ap (λ k. k + 1) c.from-step.ensures) c.loop-done-test.true l.invariant.rest a.most c.in-Faulty.fault c.in-Faulty.found c.in-Faulty.found.first c.in-Faulty.found.count refl refl
+    (subst (IsStepEnd (shape_of s) a.turns chosen R (state_of (shape_of s) l.state) a.most) c.in-Faulty.is there)
 
 pub loop-done-preserved : goal.loop-done-preserved
 loop-done-preserved c =
@@ -63,10 +76,10 @@ loop-done-preserved c =
     let l = c.loop-done in
     let chosen = pick a.script.now (c.from-step.result + 1) in
     let R = rule_of c.in_ok-main.main in
-    let there : IsStepEnd shape a.turns chosen R (state_of shape l.state) c.in_ok-step_end.step_end =
-    subst (λ (sh : Shape). IsStepEnd sh a.turns chosen R (state_of sh l.state) c.in_ok-step_end.step_end) c.signature-signature.ensures c.in_ok-step_end.ensures in
-    let on : IsStepEnd shape a.turns chosen R (state_of shape l.state) (made.Consistent c.in-Consistent.set) =
-    subst (IsStepEnd shape a.turns chosen R (state_of shape l.state)) c.in-Consistent.is there in
+    let there : IsStepEnd shape a.turns chosen R (state_of shape l.state) a.most c.in_ok-step_end.step_end =
+    subst (λ (sh : Shape). IsStepEnd sh a.turns chosen R (state_of sh l.state) a.most c.in_ok-step_end.step_end) c.signature-signature.ensures c.in_ok-step_end.ensures in
+    let on : IsStepEnd shape a.turns chosen R (state_of shape l.state) a.most (made.Consistent c.in-Consistent.set) =
+    subst (IsStepEnd shape a.turns chosen R (state_of shape l.state) a.most) c.in-Consistent.is there in
     record {
       whole = c.fire_into.ensures.len ∙ l.invariant.whole;
       rest = goes_on c.resolving_laws.ensures s a.turns a.script.now a.steps l.done (c.from-step.result + 1) (state_of shape l.state) R c.in_ok-main.ensures

@@ -1,4 +1,4 @@
-use Rattle.std.proofs.Common.{rules, ◌≡◌, ◌<◌, ◌∙◌, ◌++◌, List, Vec, Global, Some, length, map, ap, sym, subst, refl, arith}
+use Rattle.std.proofs.Common.{rules, ◌<◌, ◌∙◌, ◌++◌, ◌-◌, [], Some, length, map, ap, sym, subst, refl, arith}
 use Rattle.std.specs.Prelude.{IfOk}
 use Rattle.asm_state.specs.Signature.{location_at}
 use Rattle.asm_state.specs.Updates.{fire}
@@ -10,9 +10,11 @@ use Rattle.asm_code.specs.code.RuleViews.{rule_of}
 use Rattle.asm_eval.specs.code.Frames.{readings_of}
 use Rattle.asm_eval.specs.code.Opening.{work_of}
 use Rattle.asm_eval.specs.code.Evaluation.{evaluation_choices, frame_locations, evaluation_shape, evaluation_state}
-use Rattle.asm_clash.specs.Standing.{all_assigned}
-use Rattle.asm_clash.specs.declared.assignment.Assignment.{Assignment}
-use Rattle.asm_clash.proofs.ClosedRules.{assign_here, seq_here, other_here, closed_here, pieces_here, piece_here, sound_part, size_of_part}
+use Rattle.asm_clash.specs.Standing.{later}
+use Rattle.asm_clash.specs.code.FirstFound.{IsFound}
+use Rattle.asm_clash.specs.code.StandingCodes.{standing}
+use Rattle.asm_clash.specs.code.StandingRules.{stands_at}
+use Rattle.asm_clash.proofs.ClosedRules.{assign_here, seq_here, other_here, closed_here, next_piece, pieces_here, piece_here, sound_part, size_of_part}
 use Rattle.asm_clash.proofs.OpenedRules.{works_stand}
 use Rattle.asm_clash.proofs.NextParts.{next_set}
 use Rattle.asm_clash.proofs.StandingSequences.{order_begin, order_none, order_off, order_on, order_finish, turns_start, turn_none, turn_off, turn_on}
@@ -25,29 +27,57 @@ standing_in-loop-i-init g t c =
     let a = c.args in
     let r = a.evaluation.now in
     let shape = evaluation_shape r in
-    let l = location_at shape a.n in
-    let pieces = c.in-Pieces.pieces in
-    (pieces_here r a.piece.now c.requires.whole _ _ c.in_ok-pieces.ensures l pieces c.in-Pieces.instances c.in-Pieces.is c.whole_cut-cut.ensures.whole).0
-    ∙ ap (λ (found : List Assignment). all_assigned found ++ works_stand shape r.turns (evaluation_choices r) l (evaluation_state r) (map (work_of shape) pieces.items)) (sym c.new-all.ensures.items)
+    let l = location_at shape a.sought.now.location in
+    let gs = a.sought.now.given.now in
+    let pieces = c.in-Pieces.pieces in (
+      [],
+      c.none-all.ensures a.sought.now.most,
+      (pieces_here r a.piece.now c.requires.whole _ _ c.in_ok-pieces.ensures l gs pieces c.in-Pieces.instances c.in-Pieces.is c.whole_cut-cut.ensures.whole).0
+          ∙ ap (λ given. works_stand shape r.turns (evaluation_choices r) l (evaluation_state r) given (map (work_of shape) pieces.items)) (sym c.in_ok-given-in-Pieces.ensures),
+    )
 
 pub standing_in-standing_in-requires : goal.standing_in-standing_in-requires
 standing_in-standing_in-requires g t c κs within =
     let a = c.args in
     let r = a.evaluation.now in
-    let l = location_at (evaluation_shape r) a.n in
+    let l = location_at (evaluation_shape r) a.sought.now.location in
     let pieces = c.in-Pieces.pieces in
     let low : c.loop-i.i < length pieces.items = omega (arith, c.loop-i-test.true, c.len-i-end.ensures, pieces.ok) in
-    let one = piece_here r a.piece.now c.requires.whole _ _ c.in_ok-pieces.ensures l pieces c.in-Pieces.instances c.in-Pieces.is c.whole_cut-cut.ensures.whole c.loop-i.i c.index.result.now low c.index.ensures in
+    let one = piece_here r a.piece.now c.requires.whole _ _ c.in_ok-pieces.ensures l a.sought.now.given.now pieces c.in-Pieces.instances c.in-Pieces.is c.whole_cut-cut.ensures.whole c.loop-i.i c.index.result.now low c.index.ensures in
     (omega (arith, c.decreases, one.0), (search rules, (one.1, (one.2, c.requires.number))))
+
+pub standing_in-loop-i-preserved : goal.standing_in-loop-i-preserved
+standing_in-loop-i-preserved g t c =
+    let a = c.args in
+    let r = a.evaluation.now in
+    let shape = evaluation_shape r in
+    let l = location_at shape a.sought.now.location in
+    let i = c.loop-i in
+    let pieces = c.in-Pieces.pieces in
+    let low : i.i < length pieces.items = omega (arith, c.loop-i-test.true, c.len-i-end.ensures, pieces.ok) in
+    let whole = stands_at r l a.sought.now.given.now a.piece.now.frame a.piece.now.path (rule_of a.piece.now.rule.now) in
+    let x = c.index.result.now in
+    let given = c.in_ok-given-in-Pieces.given.items in
+    let found = c.in_ok-found-in-Pieces.found in
+    let room = a.sought.now.most - length i.all.first.items in
+    let own = stands_at r l given x.frame x.path (rule_of x.rule.now) in
+    let listed = stands_at r l c.as_slice.result.now x.frame x.path (rule_of x.rule.now) in
+    let kept : IsFound room listed found = subst (λ k. IsFound k listed found) c.room.ensures c.in_ok-found-in-Pieces.ensures in
+    let kept_own : IsFound room own found =
+    subst (λ ws. IsFound room (stands_at r l ws x.frame x.path (rule_of x.rule.now)) found) c.as_slice.ensures.value kept in (
+      i.invariant.0 ++ own,
+      c.in_ok-append-in-Pieces.ensures a.sought.now.most i.invariant.0 own i.invariant.1 kept_own,
+      next_piece r l given pieces.items a.sought.now.most whole i.invariant.0 i.i x low c.index.ensures i.invariant.2,
+    )
 
 pub standing_in-returns-in-Assign : goal.standing_in-returns-in-Assign
 standing_in-returns-in-Assign g t c =
     let a = c.args in
     let r = a.evaluation.now in
     let shape = evaluation_shape r in
-    let l = location_at shape a.n in
-    subst (λ xs. IfOk c.assigned.result (λ (found : Vec Assignment Global). all_assigned found.items ≡ xs))
-    (assign_here shape r.turns (evaluation_choices r) l (readings_of shape a.piece.now.frame) (frame_locations shape a.piece.now.frame) (evaluation_state r) a.piece.now.path c.as_slice-path.result.now c.as_slice-path.ensures
+    let l = location_at shape a.sought.now.location in
+    subst (λ xs. IfOk c.assigned.result (IsFound a.sought.now.most xs))
+    (assign_here shape r.turns (evaluation_choices r) l (readings_of shape a.piece.now.frame) (frame_locations shape a.piece.now.frame) a.sought.now.given.now (evaluation_state r) a.piece.now.path c.as_slice-path.result.now c.as_slice-path.ensures
     a.piece.now.rule.now c.in-Assign.place c.in-Assign.value c.in-Assign.is)
     c.assigned.ensures
 
@@ -56,10 +86,10 @@ standing_in-returns-in-Seq g t c =
     let a = c.args in
     let r = a.evaluation.now in
     let shape = evaluation_shape r in
-    let l = location_at shape a.n in
-    subst (λ xs. IfOk c.standing_in_order.result (λ (found : Vec Assignment Global). all_assigned found.items ≡ xs))
-    (seq_here shape r.turns (evaluation_choices r) l (readings_of shape a.piece.now.frame) (frame_locations shape a.piece.now.frame) (evaluation_state r) a.piece.now.path c.as_slice-path.result.now c.as_slice-path.ensures
-    a.piece.now.rule.now c.in-Seq.parts c.in-Seq.is c.as_slice.result.now c.as_slice.ensures.value)
+    let l = location_at shape a.sought.now.location in
+    subst (λ xs. IfOk c.standing_in_order.result (IsFound a.sought.now.most xs))
+    (seq_here shape r.turns (evaluation_choices r) l (readings_of shape a.piece.now.frame) (frame_locations shape a.piece.now.frame) a.sought.now.given.now (evaluation_state r) a.piece.now.path c.as_slice-path.result.now c.as_slice-path.ensures
+    a.piece.now.rule.now c.in-Seq.parts c.in-Seq.is c.as_slice-in-Seq.result.now c.as_slice-in-Seq.ensures.value)
     c.standing_in_order.ensures
 
 pub standing_in-returns-in_default : goal.standing_in-returns-in_default
@@ -67,11 +97,12 @@ standing_in-returns-in_default g t c =
     let a = c.args in
     let r = a.evaluation.now in
     let shape = evaluation_shape r in
-    let l = location_at shape a.n in
+    let l = location_at shape a.sought.now.location in
     let closed = closed_here r a.piece.now c.requires.whole _ _ c.in_ok-pieces.ensures (c.opening_laws.ensures r) c.requires.piece c.in-Closed.is c.whole_cut-cut.ensures.some in
-    ap all_assigned c.new.ensures.items
-    ∙ other_here shape r.turns (evaluation_choices r) l (readings_of shape a.piece.now.frame) (frame_locations shape a.piece.now.frame) (evaluation_state r) a.piece.now.path a.piece.now.path refl
-    a.piece.now.rule.now closed c.in_default.not-Assign c.in_default.not-Seq c.in_default.not-Iterate
+    subst (λ xs. IsFound a.sought.now.most xs c.none.result)
+    (other_here shape r.turns (evaluation_choices r) l (readings_of shape a.piece.now.frame) (frame_locations shape a.piece.now.frame) a.sought.now.given.now (evaluation_state r) a.piece.now.path a.piece.now.path refl
+    a.piece.now.rule.now closed c.in_default.not-Assign c.in_default.not-Seq c.in_default.not-Iterate)
+    (c.none.ensures a.sought.now.most)
 
 -- ---- parts in order
 
@@ -80,11 +111,13 @@ standing_in_order-loop-i-init g t c =
     let a = c.args in
     let r = a.evaluation.now in
     let shape = evaluation_shape r in
-    let l = location_at shape a.n in
+    let l = location_at shape a.sought.now.location in
     record {
       counted = c.new-so_far.ensures.count ∙ c.count.ensures.count;
-      walked = order_begin shape r.turns (evaluation_choices r) l (readings_of shape a.frame.now) (frame_locations shape a.frame.now) a.path.now (evaluation_state r) a.parts.now
-          (all_assigned c.new-found.result.items) c.new-so_far.result (ap all_assigned c.new-found.ensures.items) (c.new-so_far.ensures.empty shape c.count.ensures.sound c.count.ensures.count);
+      stand = [];
+      kept = c.none-found.ensures a.sought.now.most;
+      walked = order_begin shape r.turns (evaluation_choices r) l (readings_of shape a.frame.now) (frame_locations shape a.frame.now) a.sought.now.given.now a.path.now (evaluation_state r) a.parts.now
+          [] c.new-so_far.result refl (c.new-so_far.ensures.empty shape c.count.ensures.sound c.count.ensures.count);
     }
 
 pub standing_in_order-standing_next-requires : goal.standing_in_order-standing_next-requires
@@ -99,39 +132,48 @@ standing_in_order-returns-in_default g t c =
     let a = c.args in
     let r = a.evaluation.now in
     let shape = evaluation_shape r in
-    let l = location_at shape a.n in
+    let l = location_at shape a.sought.now.location in
     let i = c.loop-i in
     let under = i.invariant.walked in
-    order_none shape r.turns (evaluation_choices r) l (readings_of shape a.frame.now) (frame_locations shape a.frame.now) a.path.now (evaluation_state r) a.parts.now
-    i.i c.index-parts-i.result c.loop-i-test.true c.index-parts-i.is (all_assigned i.found.items) i.so_far under
-    _ (all_assigned c.standing_next.new.found.items) c.standing_next.new.so_far (c.in_ok-next.ensures.next under.set under.stands under.consistent) c.in_default.not-Some
+    let next = c.in_ok-next.ensures.next under.set i.invariant.stand under.stands under.consistent i.invariant.kept in
+    subst (λ xs. IsFound a.sought.now.most xs c.standing_next.new.found)
+    (order_none shape r.turns (evaluation_choices r) l (readings_of shape a.frame.now) (frame_locations shape a.frame.now) a.sought.now.given.now a.path.now (evaluation_state r) a.parts.now
+    i.i c.index-parts-i.result c.loop-i-test.true c.index-parts-i.is i.invariant.stand i.so_far under
+    _ next.0 c.standing_next.new.so_far next.2 c.in_default.not-Some)
+    next.1
 
 pub standing_in_order-returns-then-ends_parts : goal.standing_in_order-returns-then-ends_parts
 standing_in_order-returns-then-ends_parts g t c =
     let a = c.args in
     let r = a.evaluation.now in
     let shape = evaluation_shape r in
-    let l = location_at shape a.n in
+    let l = location_at shape a.sought.now.location in
     let i = c.loop-i in
     let under = i.invariant.walked in
-    order_off shape r.turns (evaluation_choices r) l (readings_of shape a.frame.now) (frame_locations shape a.frame.now) a.path.now (evaluation_state r) a.parts.now
-    i.i c.index-parts-i.result c.loop-i-test.true c.index-parts-i.is (all_assigned i.found.items) i.so_far under
-    _ (all_assigned c.standing_next.new.found.items) c.standing_next.new.so_far (c.in_ok-next.ensures.next under.set under.stands under.consistent)
-    c.in-Some.part c.in-Some.is (sym c.ends_parts.ensures ∙ c.if-ends_parts.true)
+    let next = c.in_ok-next.ensures.next under.set i.invariant.stand under.stands under.consistent i.invariant.kept in
+    subst (λ xs. IsFound a.sought.now.most xs c.standing_next.new.found)
+    (order_off shape r.turns (evaluation_choices r) l (readings_of shape a.frame.now) (frame_locations shape a.frame.now) a.sought.now.given.now a.path.now (evaluation_state r) a.parts.now
+    i.i c.index-parts-i.result c.loop-i-test.true c.index-parts-i.is i.invariant.stand i.so_far under
+    _ next.0 c.standing_next.new.so_far next.2
+    c.in-Some.part c.in-Some.is (sym c.ends_parts.ensures ∙ c.if-ends_parts.true))
+    next.1
 
 pub standing_in_order-loop-i-preserved : goal.standing_in_order-loop-i-preserved
 standing_in_order-loop-i-preserved g t c =
     let a = c.args in
     let r = a.evaluation.now in
     let shape = evaluation_shape r in
-    let l = location_at shape a.n in
+    let l = location_at shape a.sought.now.location in
     let i = c.loop-i in
     let under = i.invariant.walked in
+    let next = c.in_ok-next.ensures.next under.set i.invariant.stand under.stands under.consistent i.invariant.kept in
     record {
       counted = c.in_ok-next.ensures.count ∙ i.invariant.counted;
-      walked = order_on shape r.turns (evaluation_choices r) l (readings_of shape a.frame.now) (frame_locations shape a.frame.now) a.path.now (evaluation_state r) a.parts.now
-          i.i c.index-parts-i.result c.loop-i-test.true c.index-parts-i.is (all_assigned i.found.items) i.so_far under
-          _ (all_assigned c.standing_next.new.found.items) c.standing_next.new.so_far (c.in_ok-next.ensures.next under.set under.stands under.consistent)
+      stand = next.0;
+      kept = next.1;
+      walked = order_on shape r.turns (evaluation_choices r) l (readings_of shape a.frame.now) (frame_locations shape a.frame.now) a.sought.now.given.now a.path.now (evaluation_state r) a.parts.now
+          i.i c.index-parts-i.result c.loop-i-test.true c.index-parts-i.is i.invariant.stand i.so_far under
+          _ next.0 c.standing_next.new.so_far next.2
           c.in-Some.part c.in-Some.is (sym c.ends_parts.ensures ∙ c.if-ends_parts.false);
     }
 
@@ -140,10 +182,12 @@ standing_in_order-returns g t c =
     let a = c.args in
     let r = a.evaluation.now in
     let shape = evaluation_shape r in
-    let l = location_at shape a.n in
+    let l = location_at shape a.sought.now.location in
     let i = c.loop-i in
-    order_finish shape r.turns (evaluation_choices r) l (readings_of shape a.frame.now) (frame_locations shape a.frame.now) a.path.now (evaluation_state r) a.parts.now
-    i.i (all_assigned i.found.items) i.so_far i.invariant.walked (omega (arith, c.loop-i-test.false))
+    subst (λ xs. IsFound a.sought.now.most xs i.found)
+    (order_finish shape r.turns (evaluation_choices r) l (readings_of shape a.frame.now) (frame_locations shape a.frame.now) a.sought.now.given.now a.path.now (evaluation_state r) a.parts.now
+    i.i i.invariant.stand i.so_far i.invariant.walked (omega (arith, c.loop-i-test.false)))
+    i.invariant.kept
 
 -- ---- turns
 
@@ -152,11 +196,13 @@ standing_in_turns-loop-turn-init g t c =
     let a = c.args in
     let r = a.evaluation.now in
     let shape = evaluation_shape r in
-    let l = location_at shape a.n in
+    let l = location_at shape a.sought.now.location in
     record {
       counted = c.new-so_far.ensures.count ∙ c.count.ensures.count;
-      walked = turns_start shape r.turns (evaluation_choices r) l (readings_of shape a.frame.now) (frame_locations shape a.frame.now) a.path.now (evaluation_state r) (rule_of a.body.now)
-          (all_assigned c.new-found.result.items) c.new-so_far.result (ap all_assigned c.new-found.ensures.items) (c.new-so_far.ensures.empty shape c.count.ensures.sound c.count.ensures.count);
+      stand = [];
+      kept = c.none-found.ensures a.sought.now.most;
+      walked = turns_start shape r.turns (evaluation_choices r) l (readings_of shape a.frame.now) (frame_locations shape a.frame.now) a.sought.now.given.now a.path.now (evaluation_state r) (rule_of a.body.now)
+          [] c.new-so_far.result refl (c.new-so_far.ensures.empty shape c.count.ensures.sound c.count.ensures.count);
     }
 
 pub standing_in_turns-returns-in_default : goal.standing_in_turns-returns-in_default
@@ -164,55 +210,69 @@ standing_in_turns-returns-in_default g t c =
     let a = c.args in
     let r = a.evaluation.now in
     let shape = evaluation_shape r in
-    let l = location_at shape a.n in
+    let l = location_at shape a.sought.now.location in
     let i = c.loop-turn in
     let under = i.invariant.walked in
-    turn_none shape r.turns (evaluation_choices r) l (readings_of shape a.frame.now) (frame_locations shape a.frame.now) a.path.now (evaluation_state r) (rule_of a.body.now)
-    i.turn c.from-number.result c.loop-turn-test.true c.from-number.ensures (all_assigned i.found.items) i.so_far under
-    _ (all_assigned c.standing_next.new.found.items) c.standing_next.new.so_far (c.in_ok-next.ensures.next under.set under.stands under.consistent) c.in_default.not-Some
+    let next = c.in_ok-next.ensures.next under.set i.invariant.stand under.stands under.consistent i.invariant.kept in
+    subst (λ xs. IsFound a.sought.now.most xs c.standing_next.new.found)
+    (turn_none shape r.turns (evaluation_choices r) l (readings_of shape a.frame.now) (frame_locations shape a.frame.now) a.sought.now.given.now a.path.now (evaluation_state r) (rule_of a.body.now)
+    i.turn c.from-number.result c.loop-turn-test.true c.from-number.ensures i.invariant.stand i.so_far under
+    _ next.0 c.standing_next.new.so_far next.2 c.in_default.not-Some)
+    next.1
 
 pub standing_in_turns-returns-then-ends_turns : goal.standing_in_turns-returns-then-ends_turns
 standing_in_turns-returns-then-ends_turns g t c =
     let a = c.args in
     let r = a.evaluation.now in
     let shape = evaluation_shape r in
-    let l = location_at shape a.n in
+    let l = location_at shape a.sought.now.location in
     let i = c.loop-turn in
     let under = i.invariant.walked in
-    turn_off shape r.turns (evaluation_choices r) l (readings_of shape a.frame.now) (frame_locations shape a.frame.now) a.path.now (evaluation_state r) (rule_of a.body.now)
-    i.turn c.from-number.result c.loop-turn-test.true c.from-number.ensures (all_assigned i.found.items) i.so_far under
-    _ (all_assigned c.standing_next.new.found.items) c.standing_next.new.so_far (c.in_ok-next.ensures.next under.set under.stands under.consistent)
-    c.in-Some.part c.in-Some.is (sym c.ends_turns.ensures ∙ c.if-ends_turns.true)
+    let next = c.in_ok-next.ensures.next under.set i.invariant.stand under.stands under.consistent i.invariant.kept in
+    subst (λ xs. IsFound a.sought.now.most xs c.standing_next.new.found)
+    (turn_off shape r.turns (evaluation_choices r) l (readings_of shape a.frame.now) (frame_locations shape a.frame.now) a.sought.now.given.now a.path.now (evaluation_state r) (rule_of a.body.now)
+    i.turn c.from-number.result c.loop-turn-test.true c.from-number.ensures i.invariant.stand i.so_far under
+    _ next.0 c.standing_next.new.so_far next.2
+    c.in-Some.part c.in-Some.is (sym c.ends_turns.ensures ∙ c.if-ends_turns.true))
+    next.1
 
 pub standing_in_turns-loop-turn-preserved : goal.standing_in_turns-loop-turn-preserved
 standing_in_turns-loop-turn-preserved g t c =
     let a = c.args in
     let r = a.evaluation.now in
     let shape = evaluation_shape r in
-    let l = location_at shape a.n in
+    let l = location_at shape a.sought.now.location in
     let i = c.loop-turn in
     let under = i.invariant.walked in
+    let next = c.in_ok-next.ensures.next under.set i.invariant.stand under.stands under.consistent i.invariant.kept in
     record {
       counted = c.in_ok-next.ensures.count ∙ i.invariant.counted;
-      walked = turn_on shape r.turns (evaluation_choices r) l (readings_of shape a.frame.now) (frame_locations shape a.frame.now) a.path.now (evaluation_state r) (rule_of a.body.now)
-          i.turn c.from-number.result c.loop-turn-test.true c.from-number.ensures (all_assigned i.found.items) i.so_far under
-          _ (all_assigned c.standing_next.new.found.items) c.standing_next.new.so_far (c.in_ok-next.ensures.next under.set under.stands under.consistent)
+      stand = next.0;
+      kept = next.1;
+      walked = turn_on shape r.turns (evaluation_choices r) l (readings_of shape a.frame.now) (frame_locations shape a.frame.now) a.sought.now.given.now a.path.now (evaluation_state r) (rule_of a.body.now)
+          i.turn c.from-number.result c.loop-turn-test.true c.from-number.ensures i.invariant.stand i.so_far under
+          _ next.0 c.standing_next.new.so_far next.2
           c.in-Some.part c.in-Some.is (sym c.ends_turns.ensures ∙ c.if-ends_turns.false);
     }
 
 -- ---- the next part
 
 pub standing_next-returns-clause-next : goal.standing_next-returns-clause-next
-standing_next-returns-clause-next g t c = λ U stands consistent.
+standing_next-returns-clause-next g t c = λ U before stands consistent kept.
     let a = c.args in
     let r = a.evaluation.now in
     let shape = evaluation_shape r in
+    let gs = a.sought.now.given.now in
     let v = c.upon-view.result in
     let upper = v.signature.now in
     let yielded = meaning upper r.turns (evaluation_choices r) (rule_of a.rule.now) (readings_of upper a.frame.now) (frame_locations upper a.frame.now) (shown v) c.in_ok-path.path in
-    next_set r.turns (evaluation_choices r) (rule_of a.rule.now) a.frame.now a.n shape upper c.upon-view.ensures.signature (fire (evaluation_state r) U) (shown v) (c.upon-view.ensures.fired U stands consistent)
-    (at a.path.now a.number) c.in_ok-path.path c.in_ok-path.ensures
-    U (all_assigned a.found.now.items) (all_assigned c.put_later.new.found.items) c.merge_with.new.self (Some c.of-part.result)
-    c.of-part.result c.in-Set.set c.in-Set.instances (all_assigned c.in_ok-own-in-Set.own.items) refl
-    (subst (IsFormed upper yielded) c.in-Set.is c.in_ok-outcome.ensures) c.in_ok-own-in-Set.ensures c.of-part.ensures
-    (λ V there. c.in_ok-merge_with-in-Set.ensures.merge shape U V stands there) c.put_later.ensures
+    let own = standing upper r.turns (evaluation_choices r) (location_at upper a.sought.now.location) (rule_of a.rule.now) (readings_of upper a.frame.now) (frame_locations upper a.frame.now) gs (shown v) c.in_ok-path.path in (
+      later before own,
+      c.put_later.ensures a.sought.now.most before own kept c.in_ok-own-in-Set.ensures,
+      next_set r.turns (evaluation_choices r) (rule_of a.rule.now) a.frame.now a.sought.now.location gs shape upper c.upon-view.ensures.signature (fire (evaluation_state r) U) (shown v) (c.upon-view.ensures.fired U stands consistent)
+          (at a.path.now a.number) c.in_ok-path.path c.in_ok-path.ensures
+          U before (later before own) c.merge_with.new.self (Some c.of-part.result)
+          c.of-part.result c.in-Set.set c.in-Set.instances own refl
+          (subst (IsFormed upper yielded) c.in-Set.is c.in_ok-outcome.ensures) refl c.of-part.ensures
+          (λ V there. c.in_ok-merge_with-in-Set.ensures.merge shape U V stands there) refl,
+    )

@@ -18,5 +18,5 @@ returns c =
     let shows : shown v ≡ state_of shape a.state.now =
     nothing_over shape c.new-nothing.result a.state.now (shown v) (c.new-nothing.ensures.empty shape c.count.ensures.sound c.count.ensures.count)
     (λ U stands consistent. c.new-view.ensures.fired U stands consistent) in
-    subst (λ (B : State). IsStepEnd shape a.turns chosen R B c.in_ok-step_end.step_end) shows
-    (subst (λ (sh : Shape). IsStepEnd sh a.turns chosen R (shown v) c.in_ok-step_end.step_end) c.new-view.ensures.parts.0 c.in_ok-step_end.ensures)
+    subst (λ (B : State). IsStepEnd shape a.turns chosen R B a.most c.in_ok-step_end.step_end) shows
+    (subst (λ (sh : Shape). IsStepEnd sh a.turns chosen R (shown v) a.most c.in_ok-step_end.step_end) c.new-view.ensures.parts.0 c.in_ok-step_end.ensures)

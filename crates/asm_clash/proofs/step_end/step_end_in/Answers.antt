@@ -9,7 +9,7 @@ use Rattle.asm_code.specs.code.RuleViews.{rule_of}
 use Rattle.asm_eval.specs.code.Frames.{readings_of}
 use Rattle.asm_eval.specs.code.Evaluation.{frame_locations}
 use Rattle.asm_state.specs.Signature.{location_at}
-use Rattle.asm_clash.specs.Standing.{all_assigned}
+use Rattle.asm_clash.specs.code.FirstFound.{IsFound}
 use Rattle.asm_clash.proofs.Steps.{yields_here, standing_here}
 use Rattle.asm_clash.proofs.step_end.step_end_in.Goals as goal
 
@@ -28,8 +28,8 @@ returns-in-None c =
     let U = formed.set in
     (U, yields_here shape a.turns chosen R A f c.requires.bare p top (Gives U) formed.gives, c.in-None.ensures.consistent U formed.stands, formed.stands)
 
-pub fault_number-n-requires : goal.fault_number-n-requires
-fault_number-n-requires c =
+pub fault_number-requires : goal.fault_number-requires
+fault_number-requires c =
     let a = c.args in
     let shape = a.view.now.signature.now in
     let chosen = pick a.choices.now.script.now a.choices.now.step in
@@ -51,10 +51,10 @@ returns c =
     let yielded : Outcome = meaning shape a.turns chosen R (readings_of shape f) (frame_locations shape f) A p in
     let formed : IsSet shape yielded c.in-Set.set c.in-Set.instances = subst (IsFormed shape yielded) c.in-Set.is c.in_ok-outcome.ensures in
     let U = formed.set in
-    let found = c.in_ok-assignments-in-Some.assignments.items in (
+    let l = location_at shape c.fault_number.result in (
       U,
       yields_here shape a.turns chosen R A f c.requires.bare p top (Gives U) formed.gives,
       c.in-Some.ensures.first U formed.stands,
-      standing_here shape a.turns chosen R A f c.requires.bare p top (location_at shape c.fault_number-n.result) c.in-Some.fault (all_assigned found)
-          c.fault_number-n.ensures.location c.in_ok-assignments-in-Some.ensures,
+      subst (λ xs. IsFound a.most xs c.in_ok-found-in-Some.found) (standing_here shape a.turns chosen R A f c.requires.bare p top l c.in-Some.fault c.fault_number.ensures.location)
+          c.in_ok-found-in-Some.ensures,
     )

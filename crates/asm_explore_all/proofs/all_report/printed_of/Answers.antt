@@ -21,7 +21,7 @@ returns g c links joined =
     let by_first = subst (λ (l : List ℕ). Prints l (lines_of c.as_slice-3.result.now) (shown_in finding) whole) first by_run in
     record {
       words = words;
-      tell = c.in_ok-words.ensures links joined;
+      tell = c.in_ok-words.ensures links joined c.requires.accepted;
       facts = facts;
       are_facts = c.in_ok-facts.ensures;
       are_printed = subst (λ (ls : List (List ℕ)). Prints (first_line finding words) ls (shown_in finding) whole) others by_first;

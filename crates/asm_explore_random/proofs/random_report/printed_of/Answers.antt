@@ -22,6 +22,6 @@ returns g c links joined =
     let by_first = subst (λ (l : List ℕ). Prints l (lines_of c.as_slice-3.result.now) (shown_in answer.finding) whole) first by_run in
     record {
       words = words;
-      tell = c.in_ok-words.ensures links joined;
+      tell = c.in_ok-words.ensures links joined c.requires.accepted;
       are_printed = subst (λ (ls : List (List ℕ)). Prints (line words) ls (shown_in answer.finding) whole) others by_first;
     }

@@ -1,26 +1,47 @@
-use Rattle.std.proofs.Common.{◌∙◌}
+use Rattle.std.proofs.Common.{◌≡◌, ◌∙◌, sym, subst}
+use Rattle.asm_reader.specs.ScriptLines.{Script}
+use Rattle.asm_syntax.specs.SourceTree.{Spec}
 use Rattle.asm_syntax.specs.code.Views.{spec_of}
-use Rattle.asm_meaning.specs.Declarations.{specification_of}
-use Rattle.asm_meaning.specs.Run.{run}
-use Rattle.asm_explore_run.proofs.RunStatuses.{clash_told}
+use Rattle.asm_run.specs.Headline.{IsReturned, book_run}
+use Rattle.asm_explore_run.specs.ClashText.{greatest_shown}
+use Rattle.asm_explore_run.proofs.RunStatuses.{clash_told, found_of_count}
 use Rattle.asm_explore_run.proofs.clash_report.report_of.Goals as goal
+
+pub printed-text-requires : goal.printed-text-requires
+printed-text-requires g c κs inside =
+    let tree = spec_of c.args.checked.now.spec in
+    let settings = c.args.settings.now in
+    let script = c.in_ok-clash.ensures.0 in
+    found_of_count tree settings.turns script (book_run tree settings.turns script settings.steps) c.in_ok-clash.clash c.in_ok-clash.ensures.2
 
 pub returns : goal.returns
 returns g c =
     let tree = spec_of c.args.checked.now.spec in
     let settings = c.args.settings.now in
-    let ended = c.in_ok-clash.clash in
+    let clash = c.in_ok-clash.clash in
     let script = c.in_ok-clash.ensures.0 in
-    let ends = c.in_ok-clash.ensures.2 in
-    let first = c.in_ok-text.ensures.0 in
+    let spelled = c.in_ok-clash.ensures.1 in
+    let made = c.in_ok-clash.ensures.2 in
+    let ends = c.in_ok-ended.ensures in
+    let same_tree : ends.tree ≡ tree = c.one_tree.ensures c.args.text.now _ _ ends.accepted.spelled c.requires.accepted.spelled in
+    let same_script : ends.script ≡ script = c.one_script.ensures c.args.script_text.now _ _ ends.spelled spelled in
+    let r = book_run tree settings.turns script settings.steps in
+    let answered : IsReturned r.end c.in_ok-ended.ended.end =
+    subst (λ (s : Script). IsReturned (book_run tree settings.turns s settings.steps).end c.in_ok-ended.ended.end) same_script
+    (subst (λ (t : Spec). IsReturned (book_run t settings.turns ends.script settings.steps).end c.in_ok-ended.ended.end) same_tree ends.answered) in
+    let text = c.in_ok-text.ensures r.end answered in
     record {
       tree = tree;
       accepted = c.requires.accepted;
       script = script;
-      spelled = c.in_ok-clash.ensures.1;
-      clash = ended;
-      ends = ends;
-      first = first;
-      printed = c.in_ok-text.ensures.1;
-      status = c.status_of-status.ensures ∙ clash_told tree settings.turns script (run (specification_of tree) settings.turns script settings.steps) ended ends;
+      spelled = spelled;
+      clash = clash;
+      ends = made;
+      reads = c.in_ok-clash.ensures.3;
+      end = c.in_ok-ended.ended.end;
+      answered = answered;
+      first = text.0;
+      tells = text.1;
+      printed = text.2;
+      status = c.status_of-status.ensures ∙ clash_told tree settings.turns script greatest_shown r clash made;
     }

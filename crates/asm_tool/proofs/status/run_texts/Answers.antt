@@ -29,8 +29,8 @@ returns-in-Err-finished-clause-explained g c =
 
 pub returns-in-Err-clause-failed : goal.returns-in-Err-clause-failed
 returns-in-Err-clause-failed g c = rw c.refused_run.ensures
-    (run_failed c.args.text.now c.args.script.now c.args.limits.now _ _ c.requires.range c.in-Err.error c.in-Err.ensures.refused _ _ _
-    (rw sym c.in-Err.is at c.run-answer.ensures.failed) c.finish-finished.ensures.failed)
+    (run_failed c.args.text.now c.args.script.now c.args.limits.now _ _ c.requires.range c.in-Err.error c.in-Err.ensures.refused
+    c.run-answer.result c.in-Err.is _ _ _ c.run-answer.ensures.failed c.finish-finished.ensures.failed)
 
 pub returns-in-Err-finished-clause-failed : goal.returns-in-Err-finished-clause-failed
 returns-in-Err-finished-clause-failed g c = λ is. finish_failed _ _ c.in-Err-finished.ensures.failed
