@@ -10,7 +10,7 @@ use Rattle.asm_random.specs.declared.random_result.RandomFinding.{RandomFinding}
 use Rattle.asm_random.specs.declared.random_result.RandomFinding.TheVariants as random
 use Rattle.asm_explore_all.specs.AllReport as all
 use Rattle.asm_explore_random.specs.RandomReport.{random_status}
-use Rattle.asm_explore_run.specs.RunReport.{IsRunStatus, status_of_end}
+use Rattle.asm_explore_run.specs.RunReport.{IsRunStatus, run_asked, status_of_end}
 use Rattle.asm_explore_report.specs.declared.report.Report.{Report}
 use Rattle.asm_explore_words.specs.declared.settings.Task.{Task}
 use Rattle.asm_explore_words.specs.declared.settings.Task.TheVariants as task
@@ -51,8 +51,10 @@ module _ (contents : Text → Option (List ℕ)) (input : Option (List ℕ)) whe
   pub of_report : (asked : Task) (report : Report) → IsReportOf contents input asked report → IsOfFault report.status → ⊥
   of_report (task.All settings) report h = apart report.status _ h.reported.status (of_finding h.reported.answer.finding)
   of_report (task.Random settings) report h = apart report.status _ h.reported.status (of_random h.reported.answer.finding)
-  of_report (task.Choices settings) report h = of_choices _ report.status h.reported.status
-  of_report (task.Clash settings) report h = apart report.status _ h.reported.status (of_clash _)
+  of_report (task.Choices settings) report h =
+      let end = (run_asked h.reported.tree settings h.reported.script).end in of_choices end report.status h.reported.status
+  of_report (task.Clash settings) report h =
+      let end = (run_asked h.reported.tree settings h.reported.script).end in apart report.status (status_of_end end) h.reported.status (of_clash end)
 
   pub of_answer : (IsWritten : List ℕ → Type 0) (words : List Text) (status : ℕ) → IsAnswer contents input IsWritten words status → IsOfFault status → ⊥
   of_answer IsWritten words status (inl output) = apart status output.report.status output.status_is (of_report output.task output.report output.reported)
