@@ -2,15 +2,13 @@
 --     status_of fault             the status that the program ends with
 --     IsOfFault status            it is one of these
 --     IsOfReport fault            it may be why there is no report for words that are taken
---     fault_of_report, fault_of_words, fault_of_no_words, fault_of_read
---                                 the fault where there is no report, where words are refused or
---                                 can't be had, and where the text from a source can't be
+--     fault_of_report, fault_of_no_words, fault_of_read
+--                                 the fault where there is no report, where words can't be had, and
+--                                 where the text from a source can't be
 use Rattle.std.specs.Prelude.{◌≤◌, ℕ, ⊤}
 use Rattle.asm_explore_words.specs.declared.fault.Fault.{Fault}
 use Rattle.asm_explore_words.specs.declared.fault.Fault.TheVariants as report
 use Rattle.asm_explore_words.specs.declared.fault.Source.{Source}
-use Rattle.asm_explore_words.specs.declared.settings.WordFault.{WordFault}
-use Rattle.asm_explore_words.specs.declared.settings.WordFault.TheVariants as word
 use Rattle.asm_files.specs.declared.fault.NoWords.{NoWords}
 use Rattle.asm_files.specs.declared.fault.NoWords.TheVariants as absent
 use Rattle.asm_files.specs.declared.fault.ReadFault.{ReadFault}
@@ -42,10 +40,6 @@ fault_of_report (report.Text refused) = Text refused
 fault_of_report report.Memory = Memory
 fault_of_report (report.Graph name) = Graph name
 fault_of_report report.Unconfirmed = Unconfirmed
-
-abbrev pub fault_of_words : WordFault → NoAnswer
-fault_of_words word.Memory = Memory
-fault_of_words (word.Words error) = Words error
 
 abbrev pub fault_of_no_words : NoWords → NoAnswer
 fault_of_no_words absent.Memory = Memory

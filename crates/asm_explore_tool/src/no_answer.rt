@@ -1,10 +1,9 @@
 //! Why the program doesn't write what words ask for.
 ghost use Rattle.std.specs.Prelude.{◌≡◌};
-ghost use Rattle.asm_explore_tool.specs.Faults.{IsOfReport, fault_of_no_words, fault_of_read, fault_of_report, fault_of_words, status_of};
+ghost use Rattle.asm_explore_tool.specs.Faults.{IsOfReport, fault_of_no_words, fault_of_read, fault_of_report, status_of};
 ghost use Rattle.asm_explore_tool.specs.declared.no_answer.NoAnswer.TheVariants as no_answer;
 
 use asm_explore_words::fault::{Fault, RefusedText, Source};
-use asm_explore_words::settings::WordFault;
 use asm_files::fault::{NoWords, ReadFault};
 use clap::Error;
 use std::alloc::{AllocError, AllocFailed};
@@ -80,17 +79,6 @@ impl<'w> From<Fault<'w>> for NoAnswer<'w> {
             Fault::Memory => NoAnswer::Memory,
             Fault::Graph(name) => NoAnswer::Graph(name),
             Fault::Unconfirmed => NoAnswer::Unconfirmed,
-        }
-    }
-}
-
-impl<'w> From<WordFault> for NoAnswer<'w> {
-    ghost from_gives = { λ words fault. fault ≡ fault_of_words words };
-
-    fn from(fault: WordFault) -> NoAnswer<'w> {
-        match fault {
-            WordFault::Memory => NoAnswer::Memory,
-            WordFault::Words(error) => NoAnswer::Words(error),
         }
     }
 }
