@@ -1,7 +1,7 @@
 -- Free. What is written of an answer.
 --     on_err          a promise of a failure that holds in any case
 --     whole_is_begun  a text that is written whole, and then can't be handed on
-use Rattle.std.proofs.Common.{◌≡◌, ◌∙◌, ℕ, List, Option, None, Some, length, subst, sym, arith}
+use Rattle.std.proofs.Common.{◌∙◌, ℕ, List, Option, None, Some, length, subst, sym, arith}
 use Rattle.std.specs.Prelude.{Err, Ok, OnErr, Result}
 use Rattle.std.proofs.lemmas.List.{take_all}
 use Rattle.std.specs.Io.KnownBytes.{Appends, Keeps}

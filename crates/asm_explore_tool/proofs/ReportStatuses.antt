@@ -1,7 +1,7 @@
 -- Free. No report has the status of a fault.
 --     of_report        the status of a report
 --     of_answer        of help or the version, too
-use Rattle.std.proofs.Common.{◌≡◌, ◌⊎◌, ℕ, List, Option, inl, inr, arith, subst, sym}
+use Rattle.std.proofs.Common.{◌≡◌, ℕ, List, Option, inl, inr, arith, subst}
 use Rattle.clap.specs.Walk.{Text}
 use Rattle.asm_meaning.specs.Run.{AtExhausted, AtFault, AtLimit, End}
 use Rattle.asm_explore.specs.declared.exploration_result.Finding.{Finding}
