@@ -1,9 +1,10 @@
 //! The program `asm`: reads a specification and writes the trace of its run.
 #![tactic(auto)]
 
-use asm_tool::folder::Disk;
-use asm_tool::input::words;
-use asm_tool::output::{Through, buffered};
+use asm_files::folder::Disk;
+use asm_files::input::words;
+use asm_files::output::{Through, buffered};
+use asm_tool::fault::Fault;
 use asm_tool::status::{refusal, status};
 use std::process::ExitCode;
 
@@ -15,9 +16,9 @@ fn main(rt: HostRuntime) -> ExitCode {
                 let (disk, input) = (Disk::new(&rt), rt.stdin());
                 status(&rt, &disk, words.as_slice(), input, &mut out, &mut err)
             }
-            Err(fault) => refusal(&fault, &mut err),
+            Err(error) => refusal(&Fault::from(error), &mut err),
         },
-        Err(fault) => refusal(&fault, &mut err),
+        Err(fault) => refusal(&Fault::from(fault), &mut err),
     };
     ExitCode::from(status)
 }

@@ -2,9 +2,10 @@
 #![tactic(auto)]
 
 use asm_explore_tool::files::SystemFiles;
-use asm_explore_tool::status::{fault_of_words, refusal, status};
-use asm_tool::input::words;
-use asm_tool::output::Through;
+use asm_explore_tool::no_answer::NoAnswer;
+use asm_explore_tool::status::{refusal, status};
+use asm_files::input::words;
+use asm_files::output::{Through, buffered};
 use std::io::IsTerminal;
 use std::process::ExitCode;
 
@@ -13,12 +14,15 @@ fn main(rt: HostRuntime) -> ExitCode {
     let is_terminal = err.is_terminal();
     let mut err = Through::new(err);
     let status = match words(&rt) {
-        Ok(words) => {
-            let (files, input, mut out) = (SystemFiles::new(&rt), rt.stdin(), rt.stdout());
-            let words = words.as_slice();
-            status(&rt, &files, words, input, &mut out, &mut err, is_terminal)
-        }
-        Err(fault) => refusal(&fault_of_words(&fault), &mut err),
+        Ok(words) => match buffered(rt.alloc(), rt.stdout()) {
+            Ok(mut out) => {
+                let (files, input) = (SystemFiles::new(&rt), rt.stdin());
+                let words = words.as_slice();
+                status(&rt, &files, words, input, &mut out, &mut err, is_terminal)
+            }
+            Err(error) => refusal(&NoAnswer::from(error), &mut err),
+        },
+        Err(fault) => refusal(&NoAnswer::from(fault), &mut err),
     };
     ExitCode::from(status)
 }

@@ -4,7 +4,7 @@ use Rattle.std.proofs.Common.{◌≡◌, ℕ, ◌+◌, ◌<◌, List, [], ◌∷
 use Rattle.std.specs.Borrow.{Bor}
 use Rattle.std.proofs.lemmas.List.{append_assoc, map-append, take_more}
 use Rattle.clap.specs.Walk.{Text, texts}
-use Rattle.asm_tool.specs.Statuses.{IsFront}
+use Rattle.asm_files.specs.Input.{IsFront}
 use Rattle.asm_explore_texts.specs.Conditions.{texts_of}
 use Rattle.asm_explore_tool.specs.GivenTexts.{AreFronts, max_bytes_read}
 use Rattle.asm_explore_texts.specs.declared.conditions.Condition.{Condition}

@@ -1,2 +1,5 @@
+pub mod Appending
 mod FilesInTurn
 mod InputOnce
+mod OutputBytes
+mod ReportStatuses

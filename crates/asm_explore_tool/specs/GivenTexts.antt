@@ -17,7 +17,7 @@
 use Rattle.std.specs.Prelude.{◌≡◌, ℕ, List, [], ◌∷◌, ◌++◌, Option, Some, None, cond, option_map, codes, ⊤}
 use Rattle.std.specs.Str.{bytes_eq}
 use Rattle.clap.specs.Walk.{Text, texts}
-use Rattle.asm_tool.specs.Statuses.{IsFront, bytes_of}
+use Rattle.asm_files.specs.Input.{IsFront, bytes_of}
 use Rattle.asm_explore_texts.specs.Conditions.{text_of, texts_of}
 use Rattle.asm_explore_texts.specs.declared.conditions.Conditions.{Conditions}
 use Rattle.asm_explore_words.specs.declared.settings.RunSettings.{RunSettings}

@@ -1,2 +1,3 @@
+pub mod Faults
 pub mod GivenTexts
 pub mod Outputs

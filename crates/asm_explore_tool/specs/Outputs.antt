@@ -1,21 +1,32 @@
 -- Definition. What the program writes for words.
---     AreTaken words          they begin with a command, and what comes after it is taken
---     OutputsAll              the report for settings of `all`: status, and what the bytes of the
---                             output grew by, of the texts that are read for them
---     OutputsRandom           the same for settings of `random`
---     OutputsRun              the same for settings of one run, with what is reported of it
---     OutputsTask             the report for a command with its settings
---     IsOutput                the report for the command and the settings that the words give
-use Rattle.std.specs.Prelude.{◌≡◌, ◌⊎◌, ℕ, List, [], ◌∷◌, Option, codes}
-use Rattle.std.specs.Io.KnownBytes.{Appends}
+--     AppendsUpTo old new text    known bytes grow by a front of the text, which may be all of it
+--     IsReportOfAll, IsReportOfRandom, IsReportOfRun
+--                                 the report for settings of `all`, of `random`, of one run, of the
+--                                 texts that are read for them
+--     IsReportOf                  the report for a command with its settings
+--     IsOutput                    the report for the words: its text is written, and its status is
+--                                 this one
+--     IsHelp                      words are refused, and ask for help or for the version: some text
+--                                 is written
+--     IsAnswer                    one of the two
+--     HasNoReport                 why words that are taken have no report, and what of one is
+--                                 written: nothing, unless the output failed
+--     AreRefused                  why words are refused, and what is written
+--     IsExplained                 one of the two says why the status is what it is
+use Rattle.std.specs.Prelude.{◌≡◌, ◌⊎◌, ℕ, Bool, List, [], Option, IsTrue, take}
+use Rattle.std.specs.Io.KnownBytes.{Appends, Keeps}
+use Rattle.clap.specs.Kinds.{IsAmong, Kinds}
+use Rattle.clap.specs.Values.{kind_of}
 use Rattle.clap.specs.Walk.{Text, texts}
-use Rattle.asm_explore_words.specs.CommandLine.{random_refusals, refusals}
 use Rattle.asm_explore_texts.specs.Conditions.{texts_of}
+use Rattle.asm_explore_tool.specs.Faults.{status_of}
 use Rattle.asm_explore_tool.specs.GivenTexts.{AreAlwaysGiven, AreGiven, AreRunTexts, IsText}
+use Rattle.asm_explore_tool.specs.declared.no_answer.NoAnswer.{NoAnswer}
+use Rattle.asm_explore_tool.specs.declared.no_answer.NoAnswer.TheVariants as no_answer
 use Rattle.asm_explore_random.specs.RandomReport.{IsRandomReported}
 use Rattle.asm_explore_all.specs.AllReport.{IsReported}
 use Rattle.asm_explore_run.specs.RunReport.{AreChoicesReported, IsClashReported}
-use Rattle.asm_explore_words.specs.WordsSaid.{AreRunTaken, AreSaidBehind, IsOfRun}
+use Rattle.asm_explore_words.specs.WordsSaid.{AreSaidBehind, AskForHelp, task_refusals}
 use Rattle.asm_explore_texts.specs.declared.conditions.Condition.{Condition}
 use Rattle.asm_explore_texts.specs.declared.conditions.Conditions.{Conditions}
 use Rattle.asm_explore_report.specs.declared.report.Report.{Report}
@@ -25,51 +36,75 @@ use Rattle.asm_explore_words.specs.declared.settings.Settings.{Settings}
 use Rattle.asm_explore_words.specs.declared.settings.Task.{Task}
 use Rattle.asm_explore_words.specs.declared.settings.Task.TheVariants.{All, Random, Choices, Clash}
 
-abbrev pub AreTaken : List Text → Type 0
-AreTaken [] = ⊥
-AreTaken (command ∷ words) =
-    ((command ≡ codes "all") × (refusals words ≡ [])) ⊎ (((command ≡ codes "random") × (random_refusals words ≡ [])) ⊎ (IsOfRun command × AreRunTaken words))
+abbrev pub AppendsUpTo : (old new : Option (List ℕ)) → List ℕ → Type 0
+AppendsUpTo old new text = (n : ℕ) × Appends old new (take n text)
 
-module _ (contents : Text → Option (List ℕ)) (input old new : Option (List ℕ)) where
-  -- the report for settings of `all`
-  pub record OutputsAll (settings : Settings) (status : ℕ) : Type 0 where
+-- ---- what words ask for
+
+module _ (contents : Text → Option (List ℕ)) (input : Option (List ℕ)) where
+  pub record IsReportOfAll (settings : Settings) (report : Report) : Type 0 where
     pub text : List ℕ
     pub is_text : IsText contents input settings.spec.now text
     pub conditions : Conditions
     pub given : AreGiven contents settings conditions
-    pub report : Report
     pub reported : IsReported text conditions settings report
-    pub status_is : status ≡ report.status
-    pub appended : Appends old new report.text.items
 
-  -- the report for settings of `random`
-  pub record OutputsRandom (settings : RandomSettings) (status : ℕ) : Type 0 where
+  pub record IsReportOfRandom (settings : RandomSettings) (report : Report) : Type 0 where
     pub text : List ℕ
     pub is_text : IsText contents input settings.spec.now text
     pub conditions : List Condition
     pub given : AreAlwaysGiven contents (texts settings.always.items) (texts settings.always_files.items) (texts_of conditions)
-    pub report : Report
     pub reported : IsRandomReported text conditions settings report
-    pub status_is : status ≡ report.status
-    pub appended : Appends old new report.text.items
 
-  -- the report for settings of one run: what is reported of the texts
-  pub record OutputsRun (AreReported : (text script_text : List ℕ) → RunSettings → Report → Type 0) (settings : RunSettings) (status : ℕ) : Type 0 where
+  pub record IsReportOfRun (AreReported : (text script_text : List ℕ) → RunSettings → Report → Type 0) (settings : RunSettings) (report : Report) : Type 0 where
     pub text : List ℕ
     pub script_text : List ℕ
     pub are_texts : AreRunTexts contents input settings text script_text
-    pub report : Report
     pub reported : AreReported text script_text settings report
-    pub status_is : status ≡ report.status
-    pub appended : Appends old new report.text.items
 
-  abbrev pub OutputsTask : Task → (status : ℕ) → Type 0
-  OutputsTask (All settings) status = OutputsAll settings status
-  OutputsTask (Random settings) status = OutputsRandom settings status
-  OutputsTask (Choices settings) status = OutputsRun AreChoicesReported settings status
-  OutputsTask (Clash settings) status = OutputsRun IsClashReported settings status
+  abbrev pub IsReportOf : Task → Report → Type 0
+  IsReportOf (All settings) report = IsReportOfAll settings report
+  IsReportOf (Random settings) report = IsReportOfRandom settings report
+  IsReportOf (Choices settings) report = IsReportOfRun AreChoicesReported settings report
+  IsReportOf (Clash settings) report = IsReportOfRun IsClashReported settings report
 
-  pub record IsOutput (words : List Text) (status : ℕ) : Type 0 where
+-- some text is written, which the library that reads the words has for them
+abbrev pub IsHelp : (IsWritten : List ℕ → Type 0) → Kinds → Type 0
+IsHelp IsWritten kinds = AskForHelp kinds × ((text : List ℕ) × IsWritten text)
+
+module _ (contents : Text → Option (List ℕ)) (input : Option (List ℕ)) (IsWritten : List ℕ → Type 0) (words : List Text) (status : ℕ) where
+  pub record IsOutput : Type 0 where
+    pub taken : task_refusals words ≡ []
     pub task : Task
     pub said : AreSaidBehind words task
-    pub answers : OutputsTask task status
+    pub report : Report
+    pub reported : IsReportOf contents input task report
+    pub status_is : status ≡ report.status
+    pub written : IsWritten report.text.items
+
+  abbrev pub IsAnswer : Type 0
+  IsAnswer = IsOutput ⊎ ((status ≡ 0) × IsHelp IsWritten (task_refusals words))
+
+-- ---- why it isn't written
+
+module _ (old new : Option (List ℕ)) (has_failed : Bool) where
+  abbrev pub AreRefused : Kinds → NoAnswer → Type 0
+  AreRefused kinds (no_answer.Words error) = Keeps old new × IsAmong (kind_of error) kinds
+  AreRefused kinds no_answer.Memory = Keeps old new
+  AreRefused kinds no_answer.Write = IsTrue has_failed × IsHelp (AppendsUpTo old new) kinds
+  AreRefused kinds fault = ⊥
+
+  module _ (contents : Text → Option (List ℕ)) (input : Option (List ℕ)) (words : List Text) where
+    abbrev pub HasNoReport : NoAnswer → Type 0
+    HasNoReport (no_answer.Words error) = ⊥
+    HasNoReport no_answer.NotText = ⊥
+    HasNoReport no_answer.Write = IsTrue has_failed × ((status : ℕ) × IsOutput contents input (AppendsUpTo old new) words status)
+    HasNoReport fault = Keeps old new
+
+    abbrev pub Explains : NoAnswer → Type 0
+    Explains fault = ((task_refusals words ≡ []) × HasNoReport fault) ⊎ AreRefused (task_refusals words) fault
+
+    pub record IsExplained (status : ℕ) : Type 0 where
+      pub fault : NoAnswer
+      pub is_status : status_of fault ≡ status
+      pub explains : Explains fault

@@ -1,6 +1,7 @@
 //! Text that is buffered on its way to a sink.
 ghost use Rattle.std.specs.Prelude.{◌≡◌, ◌≤◌};
 
+use crate::written;
 use asm_run::sink::{Sink, SinkFault};
 use std::fmt;
 use std::fmt::Write;
@@ -50,14 +51,10 @@ impl<E: Sink> Write for BufferedWriter<'_, E> {
     }
 }
 
-/// Writes the whole text, in as many pieces as the sink takes.
+/// Writes the whole text.
 fn whole<E: Sink>(sink: &mut E, text: &[u8]) -> fmt::Result {
-    let mut written = 0;
-    while written < text.len() {
-        match sink.write(&text[written..]) {
-            Ok(0) | Err(SinkFault) => return Err(fmt::Error),
-            Ok(taken) => written += taken,
-        }
+    match written::whole(sink, text) {
+        Ok(()) => Ok(()),
+        Err(SinkFault) => Err(fmt::Error),
     }
-    Ok(())
 }

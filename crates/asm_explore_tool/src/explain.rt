@@ -1,34 +1,32 @@
 //! The message on standard error.
 use crate::buffered_writer::BufferedWriter;
+use crate::no_answer::NoAnswer;
 use asm_explore_texts::excerpt::excerpt;
 use asm_explore_texts::position::{Line, Position};
-use asm_explore_words::fault::{Fault, RefusedText, Source};
+use asm_explore_words::fault::{RefusedText, Source};
 use asm_run::sink::Sink;
 use std::fmt;
 use std::fmt::Write;
 
 /// Says why the program ends without a report. If even this can't be written, the status alone
 /// tells.
-pub(crate) fn explain<E: Sink>(fault: &Fault<'_>, err: &mut E) {
+pub(crate) fn explain<E: Sink>(fault: &NoAnswer<'_>, err: &mut E) {
     let mut out = BufferedWriter::new(err);
     let _ = message(fault, &mut out).and_then(|()| out.hand_on());
 }
 
-fn message<W: Write>(fault: &Fault<'_>, out: &mut W) -> fmt::Result {
+fn message<W: Write>(fault: &NoAnswer<'_>, out: &mut W) -> fmt::Result {
     match fault {
-        Fault::Words(error) => write!(out, "{error}"),
-        Fault::NotText => out.write_str("asm-explore: a word isn't UTF-8\n"),
-        Fault::Text(refused) => refusal(refused, out),
-        Fault::Memory => out.write_str("asm-explore: out of memory\n"),
-        Fault::File(source) => unreadable(*source, out),
-        Fault::Write => out.write_str("asm-explore: the answer can't be written\n"),
-        Fault::Graph(name) => writeln!(out, "asm-explore: {name}: the graph can't be written"),
-        Fault::Unconfirmed => {
+        NoAnswer::Words(error) => write!(out, "{error}"),
+        NoAnswer::NotText => out.write_str("asm-explore: a word isn't UTF-8\n"),
+        NoAnswer::Text(refused) => refusal(refused, out),
+        NoAnswer::Memory => out.write_str("asm-explore: out of memory\n"),
+        NoAnswer::File(source) => unreadable(*source, out),
+        NoAnswer::Write => out.write_str("asm-explore: the answer can't be written\n"),
+        NoAnswer::Graph(name) => writeln!(out, "asm-explore: {name}: the graph can't be written"),
+        NoAnswer::Unconfirmed => {
             out.write_str("asm-explore: an error of this program: the script leads to no fault\n")
         }
-        Fault::Unwritten => out.write_str(
-            "asm-explore: the run has too many choices for a script: ask for fewer --steps\n",
-        ),
     }
 }
 

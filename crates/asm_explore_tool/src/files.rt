@@ -2,7 +2,7 @@
 ghost use Rattle.std.specs.Prelude.{None};
 
 use asm_explore_all::files::NewFiles;
-use asm_tool::folder::Folder;
+use asm_files::folder::Folder;
 use std::rt::Files;
 use std::{fs, io};
 

@@ -1,30 +1,23 @@
 //! What is read for settings: the text of the specification, and those of the conditions.
-ghost use Rattle.std.specs.Prelude.{◌≡◌, ◌++◌, List, ℕ, option_map, IfOk};
+ghost use Rattle.std.specs.Prelude.{◌≡◌, ◌++◌, List, ℕ, option_map, IfErr, IfOk};
 ghost use Rattle.clap.specs.Walk.{texts};
 ghost use Rattle.asm_explore_texts.specs.Conditions.{text_of, texts_of};
-ghost use Rattle.asm_tool.specs.Statuses.{IsFront};
+ghost use Rattle.asm_files.specs.Input.{IsFront};
+ghost use Rattle.asm_explore_tool.specs.Faults.{IsOfReport};
 ghost use Rattle.asm_explore_tool.specs.GivenTexts.{AreAlwaysGiven, AreFronts, AreGiven, IsText, max_bytes_read};
 
+use crate::no_answer::NoAnswer;
 use asm_explore_texts::conditions::{Condition, Conditions};
-use asm_explore_words::fault::{Fault, Source};
+use asm_explore_words::fault::Source;
 use asm_explore_words::settings::Settings;
-use asm_tool::fault::Fault as ToolFault;
-use asm_tool::folder::Folder;
-use asm_tool::input;
+use asm_files::folder::Folder;
+use asm_files::input;
 use std::alloc::{AllocError, Global};
 use std::io::Read;
 
 /// One more than the bytes of the longest text: reading goes no further, and what is of this length
 /// is too long.
 pub(crate) const MAX_BYTES_READ: u64 = 1_048_577;
-
-/// The fault of a text that can't be had.
-pub(crate) fn of_file<'w>(fault: &ToolFault, source: Source<'w>) -> Fault<'w> {
-    match fault {
-        ToolFault::Memory => Fault::Memory,
-        _ => Fault::File(source),
-    }
-}
 
 /// The text from this source: of the file with this name, or of the input.
 pub(crate) fn text<'w, F: Folder, I: Read + Drop>(
@@ -33,13 +26,14 @@ pub(crate) fn text<'w, F: Folder, I: Read + Drop>(
     source: Source<'w>,
     name: &str,
     input: I,
-) -> Result<Vec<u8>, Fault<'w>>
-    ensures { IfOk result (λ text. IsText (F.contents folder.now) (I.remaining input) name.now text.items) }
+) -> Result<Vec<u8>, NoAnswer<'w>>
+    ensures text { IfOk result (λ text. IsText (F.contents folder.now) (I.remaining input) name.now text.items) }
+    ensures none { IfErr result IsOfReport }
 {
     let file = if name == "-" { None } else { Some(name) };
     match input::text(folder, alloc, file, input, MAX_BYTES_READ) {
         Ok(text) => Ok(text),
-        Err(fault) => Err(of_file(&fault, source)),
+        Err(fault) => Err(NoAnswer::of_read(source, fault)),
     }
 }
 
@@ -81,13 +75,14 @@ fn from_file<'w, F: Folder>(
     folder: &F,
     alloc: Global,
     name: &'w str,
-) -> Result<Condition<'w>, Fault<'w>>
-    ensures { IfOk result (λ c. IsFront (F.contents folder.now name.now) max_bytes_read c.text.items) }
+) -> Result<Condition<'w>, NoAnswer<'w>>
+    ensures text { IfOk result (λ c. IsFront (F.contents folder.now name.now) max_bytes_read c.text.items) }
+    ensures none { IfErr result IsOfReport }
 {
     let source = Source::AlwaysFile(name);
     match input::script(folder, alloc, Some(name), MAX_BYTES_READ) {
         Ok(text) => Ok(Condition { source, text }),
-        Err(fault) => Err(of_file(&fault, source)),
+        Err(fault) => Err(NoAnswer::of_read(source, fault)),
     }
 }
 
@@ -97,8 +92,9 @@ fn with_files<'w, F: Folder>(
     alloc: Global,
     names: &[&'w str],
     others: Vec<Condition<'w>>,
-) -> Result<Vec<Condition<'w>>, Fault<'w>>
-    ensures { IfOk result (λ all. (files : List (List ℕ)) × AreFronts (F.contents folder.now) (texts names.now) files × (texts_of all.items ≡ texts_of others.entry.items ++ files)) }
+) -> Result<Vec<Condition<'w>>, NoAnswer<'w>>
+    ensures files { IfOk result (λ all. (files : List (List ℕ)) × AreFronts (F.contents folder.now) (texts names.now) files × (texts_of all.items ≡ texts_of others.entry.items ++ files)) }
+    ensures none { IfErr result IsOfReport }
 {
     let mut all = others;
     for k in 0..names.len() {
@@ -115,8 +111,9 @@ pub(crate) fn always_given<'w, F: Folder>(
     alloc: Global,
     words: &[&'w str],
     names: &[&'w str],
-) -> Result<Vec<Condition<'w>>, Fault<'w>>
-    ensures { IfOk result (λ all. AreAlwaysGiven (F.contents folder.now) (texts words.now) (texts names.now) (texts_of all.items)) }
+) -> Result<Vec<Condition<'w>>, NoAnswer<'w>>
+    ensures given { IfOk result (λ all. AreAlwaysGiven (F.contents folder.now) (texts words.now) (texts names.now) (texts_of all.items)) }
+    ensures none { IfErr result IsOfReport }
 {
     let first = from_words(alloc, words)?;
     let all = with_files(folder, alloc, names, first)?;
@@ -128,8 +125,9 @@ pub(crate) fn conditions<'w, F: Folder>(
     folder: &F,
     alloc: Global,
     settings: &Settings<'w>,
-) -> Result<Conditions<'w>, Fault<'w>>
-    ensures { IfOk result (AreGiven (F.contents folder.now) settings.now) }
+) -> Result<Conditions<'w>, NoAnswer<'w>>
+    ensures given { IfOk result (AreGiven (F.contents folder.now) settings.now) }
+    ensures none { IfErr result IsOfReport }
 {
     let words = settings.always.as_slice();
     let always = always_given(folder, alloc, words, settings.always_files.as_slice())?;

@@ -1,13 +1,15 @@
 //! What is read for one run: the texts of the specification and of the script.
-ghost use Rattle.std.specs.Prelude.{◌≡◌, false, IfOk};
+ghost use Rattle.std.specs.Prelude.{◌≡◌, false, IfErr, IfOk};
+ghost use Rattle.asm_explore_tool.specs.Faults.{IsOfReport};
 ghost use Rattle.asm_explore_tool.specs.GivenTexts.{AreRunTexts, IsTextOfFile};
 ghost use Rattle.asm_explore_words.specs.WordsSaid.{reads_input_twice};
 
-use crate::given_texts::{MAX_BYTES_READ, of_file, text as text_of};
-use asm_explore_words::fault::{Fault, Source};
+use crate::given_texts::{MAX_BYTES_READ, text as text_of};
+use crate::no_answer::NoAnswer;
+use asm_explore_words::fault::Source;
 use asm_explore_words::settings::RunSettings;
-use asm_tool::folder::Folder;
-use asm_tool::input;
+use asm_files::folder::Folder;
+use asm_files::input;
 use std::alloc::Global;
 use std::io::Read;
 
@@ -24,12 +26,13 @@ fn from_file<'w, F: Folder>(
     alloc: Global,
     name: &'w str,
     source: Source<'w>,
-) -> Result<Vec<u8>, Fault<'w>>
-    ensures { IfOk result (λ text. IsTextOfFile (F.contents folder.now) name.now text.items) }
+) -> Result<Vec<u8>, NoAnswer<'w>>
+    ensures text { IfOk result (λ text. IsTextOfFile (F.contents folder.now) name.now text.items) }
+    ensures none { IfErr result IsOfReport }
 {
     match input::script(folder, alloc, Some(name), MAX_BYTES_READ) {
         Ok(text) => Ok(text),
-        Err(fault) => Err(of_file(&fault, source)),
+        Err(fault) => Err(NoAnswer::of_read(source, fault)),
     }
 }
 
@@ -39,9 +42,10 @@ pub(crate) fn run_texts<'w, F: Folder, I: Read + Drop>(
     alloc: Global,
     settings: &RunSettings<'w>,
     input: I,
-) -> Result<RunTexts, Fault<'w>>
+) -> Result<RunTexts, NoAnswer<'w>>
     requires { reads_input_twice settings.now ≡ false }
-    ensures { IfOk result (λ texts. AreRunTexts (F.contents folder.now) (I.remaining input) settings.now texts.text.items texts.script.items) }
+    ensures texts { IfOk result (λ texts. AreRunTexts (F.contents folder.now) (I.remaining input) settings.now texts.text.items texts.script.items) }
+    ensures none { IfErr result IsOfReport }
 {
     let spec = settings.spec;
     match settings.script {

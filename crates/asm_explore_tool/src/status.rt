@@ -1,33 +1,27 @@
 //! The program over any reader and writers, and the status that it ends with.
-ghost use Rattle.std.specs.Prelude.{◌≡◌, ◌≢◌, false, map, IfOk, OnOk};
-ghost use Rattle.std.specs.Io.KnownBytes.{Appends};
-ghost use Rattle.asm_explore_tool.specs.Outputs.{OutputsAll, OutputsRandom, OutputsRun, OutputsTask, AreTaken, IsOutput};
-ghost use Rattle.asm_explore_words.specs.Faults.{IsOfWords, status_of_fault};
-ghost use Rattle.asm_explore_run.specs.RunReport.{AreChoicesReported, IsClashReported};
-ghost use Rattle.asm_explore_words.specs.WordsSaid.{reads_input_twice, reads_task_twice};
+ghost use Rattle.std.specs.Prelude.{◌≡◌, ◌≢◌, ◌≤◌, ◌⊎◌, [], map, IsTrue, IfOk, IfErr};
+ghost use Rattle.std.specs.Io.KnownBytes.{Appends, Keeps};
+ghost use Rattle.clap.specs.Kinds.{IsAmong, Kinds};
+ghost use Rattle.clap.specs.Values.{kind_of};
+ghost use Rattle.asm_explore_tool.specs.Faults.{IsOfFault, status_of};
+ghost use Rattle.asm_explore_tool.specs.Outputs.{AreRefused, Explains, IsAnswer, IsExplained, IsHelp};
+ghost use Rattle.asm_explore_words.specs.WordsSaid.{AskForHelp, task_refusals};
 
 use crate::explain::explain;
-use crate::given_texts::{always_given, conditions, text};
+use crate::no_answer::NoAnswer;
 use crate::progress_lines::ProgressLines;
-use crate::run_texts::run_texts;
-use asm_explore::{Progress, Watch};
-use asm_explore_all::all_report::all_report;
+use crate::reports::report;
+use crate::written::written;
 use asm_explore_all::files::NewFiles;
-use asm_explore_random::random_report::random_report;
-use asm_explore_run::choices_report::choices_report;
-use asm_explore_run::clash_report::clash_report;
 use asm_explore_words::command_line::settings;
-use asm_explore_words::fault::{Fault, Source};
-use asm_explore_words::settings::{RandomSettings, RunSettings, Settings, Task};
-use asm_random::RandomProgress;
+use asm_explore_words::settings::WordFault;
+use asm_files::folder::Folder;
+use asm_files::output::Finish;
 use asm_run::sink::Sink;
-use asm_tool::fault::Fault as ToolFault;
-use asm_tool::folder::Folder;
 use clap::Error;
-use clap::error::ErrorKind;
-use std::alloc::Global;
+use std::alloc::{AllocError, Global};
 use std::convert::AsStr;
-use std::io::{Read, Write};
+use std::io::Read;
 use std::thread::Threads;
 use std::time::Clock;
 
@@ -39,45 +33,47 @@ pub fn status<
     F: Folder + NewFiles,
     S: AsStr,
     I: Read + Drop,
-    O: Write,
+    O: Finish,
     E: Sink,
 >(rt: &R, folder: &F, words: &[S], input: I, out: &mut O, err: &mut E, is_terminal: bool) -> u8
-    // Words that are taken have a report, unless a fault with the status 2, 3 or 4 says why there
-    // is none.
-    ensures { AreTaken (map S.text words.entry.now) → result ≢ 2 → result ≢ 3 → result ≢ 4 →
-        IsOutput (F.contents folder.now) (I.remaining input) (O.contents out.old) (O.contents out.new) (map S.text words.entry.now) result }
+    // Words that are taken don't end with 4. Others end with 4, or with 3, or with 0 if they ask
+    // for help or for the version.
+    ensures taken { task_refusals (map S.text words.entry.now) ≡ [] → result ≢ 4 }
+    ensures refused { task_refusals (map S.text words.entry.now) ≢ [] →
+        (result ≡ 4) ⊎ ((result ≡ 3) ⊎ ((result ≡ 0) × AskForHelp (task_refusals (map S.text words.entry.now)))) }
+    // Neither 2, 3 nor 4: the output grew by the report, or by help or the version, and by nothing
+    // else. Nothing of it is kept back.
+    ensures answered { ¬ (IsOfFault result) →
+        IsAnswer (F.contents folder.now) (I.remaining input) (Appends (O.bytes out.old) (O.bytes out.new)) (map S.text words.entry.now) result }
+    ensures finished { ¬ (IsOfFault result) → IsTrue (O.is_finished out.new) }
+    ensures quiet { task_refusals (map S.text words.entry.now) ≢ [] → result ≡ 0 → Keeps (E.bytes err.old) (E.bytes err.new) }
+    // 2 to 4: a fault with this status says why. Nothing is written then, or a front of it if the
+    // output failed.
+    ensures explained { IsOfFault result →
+        IsExplained (O.bytes out.old) (O.bytes out.new) (O.has_failed out.new) (F.contents folder.now) (I.remaining input) (map S.text words.entry.now) result }
 {
-    let mut lines = ProgressLines::new(rt, &mut *err, is_terminal);
-    match do_command(rt, folder, words, input, out, &mut lines) {
+    match answer(rt, folder, words, input, out, err, is_terminal) {
         Ok(status) => status,
         Err(fault) => refusal(&fault, err),
     }
 }
 
-/// The fault of words that can't be had.
-pub fn fault_of_words(fault: &ToolFault) -> Fault<'static> {
-    match fault {
-        ToolFault::Memory => Fault::Memory,
-        _ => Fault::NotText,
-    }
-}
-
-/// Says why there is no report, and returns the status of that.
-pub fn refusal<E: Sink>(fault: &Fault<'_>, err: &mut E) -> u8
-    ensures { result ≡ status_of_fault fault.now }
+/// Says why what the words ask for isn't written, and returns the status of that.
+pub fn refusal<E: Sink>(fault: &NoAnswer<'_>, err: &mut E) -> u8
+    ensures { result ≡ status_of fault.now }
 {
     explain(fault, err);
     fault.status()
 }
 
-/// Writes the report that the words ask for, and returns its status.
-fn do_command<
+/// Writes what the words ask for, and returns the status of that.
+fn answer<
     'w,
     R: Threads + Clock + Sync + AllocGlobal,
     F: Folder + NewFiles,
     S: AsStr,
     I: Read + Drop,
-    O: Write,
+    O: Finish,
     E: Sink,
 >(
     rt: &R,
@@ -85,175 +81,47 @@ fn do_command<
     words: &'w [S],
     input: I,
     out: &mut O,
-    lines: &mut ProgressLines<'_, R, E>,
-) -> Result<u8, Fault<'w>>
-    ensures { AreTaken (map S.text words.entry.now) →
-        IfOk result (IsOutput (F.contents folder.now) (I.remaining input) (O.contents out.old) (O.contents out.new) (map S.text words.entry.now)) }
+    err: &mut E,
+    is_terminal: bool,
+) -> Result<u8, NoAnswer<'w>>
+    ensures answered { IfOk result (IsAnswer (F.contents folder.now) (I.remaining input) (Appends (O.bytes out.old) (O.bytes out.new)) (map S.text words.entry.now)) }
+    ensures finished { IfOk result (λ _. IsTrue (O.is_finished out.new)) }
+    ensures quiet { task_refusals (map S.text words.entry.now) ≢ [] → Keeps (E.bytes err.old) (E.bytes err.new) }
+    ensures explained { IfErr result (Explains (O.bytes out.old) (O.bytes out.new) (O.has_failed out.new) (F.contents folder.now) (I.remaining input) (map S.text words.entry.now)) }
 {
     match settings(rt.alloc(), words) {
-        Ok(task) => do_task(rt, folder, rt.alloc(), &task, input, out, lines),
-        Err(fault) => told(out, fault),
-    }
-}
-
-/// Writes the report for a command with its settings, and returns its status.
-fn do_task<'w, R: Threads + Clock + Sync, F: Folder + NewFiles, I: Read + Drop, O: Write, E: Sink>(
-    rt: &R,
-    folder: &F,
-    alloc: Global,
-    task: &Task<'w>,
-    input: I,
-    out: &mut O,
-    lines: &mut ProgressLines<'_, R, E>,
-) -> Result<u8, Fault<'w>>
-    requires { reads_task_twice task.now ≡ false }
-    ensures { IfOk result (OutputsTask (F.contents folder.now) (I.remaining input) (O.contents out.old) (O.contents out.new) task.now) }
-{
-    match task {
-        Task::All(settings) => {
-            lines.begin(settings.progress);
-            do_all(rt, folder, alloc, settings, input, out, lines)
+        Ok(task) => {
+            let mut lines = ProgressLines::new(rt, err, is_terminal);
+            let report = report(rt, folder, rt.alloc(), &task, input, &mut lines)?;
+            match written(out, report.text.as_slice()) {
+                Ok(()) => Ok(report.status),
+                Err(_) => Err(NoAnswer::Write),
+            }
         }
-        Task::Random(settings) => {
-            lines.begin(settings.progress);
-            do_random(rt, folder, alloc, settings, input, out, lines)
-        }
-        Task::Choices(settings) => do_choices(rt, folder, alloc, settings, input, out),
-        Task::Clash(settings) => do_clash(rt, folder, alloc, settings, input, out),
+        Err(WordFault::Memory) => Err(NoAnswer::Memory),
+        Err(WordFault::Words(error)) => told(rt.alloc(), out, error),
     }
 }
 
-/// Writes the choices of the run that settings ask for, and returns the status.
-fn do_choices<'w, R: Threads + Sync, F: Folder, I: Read + Drop, O: Write>(
-    rt: &R,
-    folder: &F,
-    alloc: Global,
-    settings: &RunSettings<'w>,
-    input: I,
-    out: &mut O,
-) -> Result<u8, Fault<'w>>
-    requires { reads_input_twice settings.now ≡ false }
-    ensures { IfOk result (OutputsRun (F.contents folder.now) (I.remaining input) (O.contents out.old) (O.contents out.new) AreChoicesReported settings.now) }
+/// Writes the help or the version, if refused words ask for that.
+fn told<'w, O: Finish>(alloc: Global, out: &mut O, error: Error) -> Result<u8, NoAnswer<'w>>
+    ensures told { (kinds : Kinds) → IsAmong (kind_of error) kinds →
+        IfOk result (λ status. (status ≡ 0) × IsHelp (Appends (O.bytes out.old) (O.bytes out.new)) kinds) }
+    ensures finished { IfOk result (λ _. IsTrue (O.is_finished out.new)) }
+    ensures refused { (kinds : Kinds) → IsAmong (kind_of error) kinds →
+        IfErr result (AreRefused (O.bytes out.old) (O.bytes out.new) (O.has_failed out.new) kinds) }
 {
-    let texts = run_texts(folder, alloc, settings, input)?;
-    let (text, script) = (texts.text.as_slice(), texts.script.as_slice());
-    let report = choices_report(rt, alloc, text, script, settings)?;
-    written(out, report.text.as_slice())?;
-    Ok(report.status)
-}
-
-/// Writes the assignments by which the run ends that settings ask for, and returns the status.
-fn do_clash<'w, R: Threads + Sync, F: Folder, I: Read + Drop, O: Write>(
-    rt: &R,
-    folder: &F,
-    alloc: Global,
-    settings: &RunSettings<'w>,
-    input: I,
-    out: &mut O,
-) -> Result<u8, Fault<'w>>
-    requires { reads_input_twice settings.now ≡ false }
-    ensures { IfOk result (OutputsRun (F.contents folder.now) (I.remaining input) (O.contents out.old) (O.contents out.new) IsClashReported settings.now) }
-{
-    let texts = run_texts(folder, alloc, settings, input)?;
-    let (text, script) = (texts.text.as_slice(), texts.script.as_slice());
-    let report = clash_report(rt, alloc, text, script, settings)?;
-    written(out, report.text.as_slice())?;
-    Ok(report.status)
-}
-
-/// Writes the report for settings of `all`, and returns its status.
-fn do_all<
-    'w,
-    R: Threads + Sync,
-    F: Folder + NewFiles,
-    I: Read + Drop,
-    O: Write,
-    W: Watch<Progress>,
->(
-    rt: &R,
-    folder: &F,
-    alloc: Global,
-    settings: &Settings<'w>,
-    input: I,
-    out: &mut O,
-    watch: &mut W,
-) -> Result<u8, Fault<'w>>
-    ensures { IfOk result (OutputsAll (F.contents folder.now) (I.remaining input) (O.contents out.old) (O.contents out.new) settings.now) }
-{
-    let spec = settings.spec;
-    let text = text(folder, alloc, Source::Specification(spec), spec, input)?;
-    let conditions = conditions(folder, alloc, settings)?;
-    let text = text.as_slice();
-    let report = all_report(rt, folder, alloc, text, &conditions, settings, watch)?;
-    written(out, report.text.as_slice())?;
-    Ok(report.status)
-}
-
-/// Writes the report for settings of `random`, and returns its status.
-fn do_random<'w, R: Threads + Sync, F: Folder, I: Read + Drop, O: Write, W: Watch<RandomProgress>>(
-    rt: &R,
-    folder: &F,
-    alloc: Global,
-    settings: &RandomSettings<'w>,
-    input: I,
-    out: &mut O,
-    watch: &mut W,
-) -> Result<u8, Fault<'w>>
-    ensures { IfOk result (OutputsRandom (F.contents folder.now) (I.remaining input) (O.contents out.old) (O.contents out.new) settings.now) }
-{
-    let spec = settings.spec;
-    let (words, names) = (settings.always.as_slice(), settings.always_files.as_slice());
-    let text = text(folder, alloc, Source::Specification(spec), spec, input)?;
-    let conditions = always_given(folder, alloc, words, names)?;
-    let (text, conditions) = (text.as_slice(), conditions.as_slice());
-    let report = random_report(rt, alloc, text, conditions, settings, watch)?;
-    written(out, report.text.as_slice())?;
-    Ok(report.status)
-}
-
-/// Whether the words ask for help or the version.
-fn is_asked_for(error: &Error) -> bool {
-    matches!(
-        error.kind(),
-        ErrorKind::DisplayHelp | ErrorKind::DisplayVersion
-    )
-}
-
-/// Writes the help or the version, if these were asked for.
-fn told<'w, O: Write>(out: &mut O, fault: Fault<'w>) -> Result<u8, Fault<'w>>
-    ensures { IfOk result (λ _. IsOfWords fault.entry) }
-{
-    match fault {
-        Fault::Words(error) => told_words(out, error),
-        other => Err(other),
+    if error.use_stderr() {
+        return Err(NoAnswer::Words(error));
     }
-}
-
-/// Writes the text of the library that read the words, if the help or the version was asked for.
-fn told_words<'w, O: Write>(out: &mut O, error: Error) -> Result<u8, Fault<'w>> {
-    if !is_asked_for(&error) {
-        return Err(Fault::Words(error));
-    }
-    match write!(out, "{error}") {
-        Ok(()) => {}
-        Err(_) => return Err(Fault::Write),
-    }
-    match out.flush() {
+    let text = text_of(alloc, &error)?;
+    match written(out, text.as_bytes()) {
         Ok(()) => Ok(0),
-        Err(_) => Err(Fault::Write),
+        Err(_) => Err(NoAnswer::Write),
     }
 }
 
-/// Writes the report.
-fn written<'w, O: Write>(out: &mut O, text: &[u8]) -> Result<(), Fault<'w>>
-    ensures { OnOk result (Appends (O.contents out.old) (O.contents out.new) text.now) }
-{
-    match out.write_all(text) {
-        Ok(()) => {}
-        Err(_) => return Err(Fault::Write),
-    }
-    match out.flush() {
-        Ok(()) => Ok(()),
-        Err(_) => Err(Fault::Write),
-    }
+/// The text that the library which reads the words has for this.
+fn text_of(alloc: Global, error: &Error) -> Result<String, AllocError> {
+    format!(in alloc; "{error}")
 }

@@ -8,12 +8,16 @@
 --                                       and condition and for the seed, and two flags
 --     run_command, run_refusals words   after `choices` and `clash`: the text's file, and an option
 --                                       for each limit and for the script's file
-use Rattle.std.specs.Prelude.{ℕ, true, List, [], ◌∷◌, Some, codes}
+--     commands, command_refusals words  all of them, one of which has to be named first. The kinds
+--                                       of what is wrong with words that name none
+use Rattle.std.specs.Prelude.{ℕ, false, true, List, [], ◌∷◌, Some, codes}
 use Rattle.clap.specs.Faults.{fault_of}
+use Rattle.clap.specs.Kinds as kinds
 use Rattle.clap.specs.Kinds.{Kinds}
-use Rattle.clap.specs.Simple.{App, new_rule, new_shape}
+use Rattle.clap.specs.Simple.{App, Shape, new_rule, new_shape}
 use Rattle.clap.specs.Walk.{Rule, Text}
 use Rattle.clap.specs.declared.builder.action.ArgAction.TheVariants.{Append, SetTrue}
+use Rattle.clap.specs.declared.error.kind.ErrorKind.TheVariants.{MissingSubcommand}
 use Rattle.clap.specs.declared.builder.value_parser.ValueParser.TheVariants.{Unsigned}
 use Rattle.asm_limits.specs.Limits.{NumberOption, from_to, steps_option, turns_option, workers_option}
 use Rattle.asm_arguments.specs.Arguments.{positional, option, number, required, or_else}
@@ -113,3 +117,26 @@ run_command = record {
 
 abbrev pub run_refusals : List Text → Kinds
 run_refusals words = fault_of run_command words
+
+-- ---- all of them, one of which has to be named first
+
+abbrev pub named : Text → App → Shape
+named name app = record app.top { name = name }
+
+unfoldable pub commands : App
+commands = record {
+  top = record (new_shape (codes "asm-explore")) {
+    no_binary_name = true;
+    has_version = true;
+    is_leaf = false;
+    subcommand_required = true;
+  };
+  subs = named (codes "all") command
+      ∷ named (codes "random") random_command
+      ∷ named (codes "choices") run_command
+      ∷ named (codes "clash") run_command
+      ∷ [];
+}
+
+abbrev pub command_refusals : List Text → Kinds
+command_refusals words = kinds.or_else (fault_of commands words) (MissingSubcommand ∷ [])

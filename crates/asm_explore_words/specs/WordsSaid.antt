@@ -5,29 +5,33 @@
 --                                   aren't both standard input
 --     AreSaidBehind words task      the first word names the command, and the others give its
 --                                   settings
---     Explains, ExplainsRandom, ExplainsRun words fault
---                                   the words after a command are refused, as the fault says, or
---                                   memory ran out
---     ExplainsBehind words fault    the same with the command before them
-use Rattle.std.specs.Prelude.{◌≡◌, ◌⊎◌, ℕ, Bool, true, false, ◌&&◌, List, [], ◌∷◌, Option, Some, None, option_map, codes, is_some, ⊤}
+--     one_run_refusals words        the kinds of what is wrong with the words after `choices` and
+--                                   `clash`
+--     task_refusals words           the kinds of what is wrong with the command and the words behind
+--                                   it, none if they are taken
+--     AskForHelp kinds              words of these kinds ask for help or for the version
+--     IsRefusal kinds fault         words are refused by a fault of one of these kinds, or memory
+--                                   ran out
+use Rattle.std.specs.Prelude.{◌≡◌, ◌⊎◌, ℕ, Bool, true, false, ◌&&◌, ◌||◌, List, [], ◌∷◌, Option, Some, None, cond, option_map, codes, is_some, ⊤}
 use Rattle.std.specs.Option.{option_map_or}
 use Rattle.std.specs.Prelude.{find}
 use Rattle.std.specs.Str.{bytes_eq}
 use Rattle.std.specs.Str.Parse.{digits_value, without_leading_plus}
-use Rattle.clap.specs.Kinds.{IsAmong}
+use Rattle.clap.specs.Kinds as kinds
+use Rattle.clap.specs.Kinds.{IsAmong, Kinds}
 use Rattle.clap.specs.Matches.{first_value, found_of, one_text}
 use Rattle.clap.specs.Simple.{matches_of}
 use Rattle.clap.specs.Values.{IsUnsignedIn, kind_of}
 use Rattle.clap.specs.Walk.{Row, Text, first_of, rows_of, texts}
 use Rattle.clap.specs.declared.error.Error.{Error}
-use Rattle.clap.specs.declared.error.kind.ErrorKind.TheVariants.{ArgumentConflict, OutOfMemory}
+use Rattle.clap.specs.declared.error.kind.ErrorKind.TheVariants.{ArgumentConflict, DisplayHelp, DisplayVersion, OutOfMemory}
 use Rattle.clap.specs.declared.parser.matches.ArgMatches.{ArgMatches}
 use Rattle.clap.specs.declared.parser.matches.Found.{Found}
 use Rattle.asm_limits.specs.Limits.{NumberOption, are_within, turns_option, workers_option}
 use Rattle.asm_arguments.specs.Numbers.{AreNumbers, HaveNumbers}
-use Rattle.asm_explore_words.specs.CommandLine.{command, most_unsigned, outcomes_option, refusals, random_command, random_refusals, run_command, run_refusals, runs_option, states_option, steps_or_else}
-use Rattle.asm_explore_words.specs.declared.fault.Fault.{Fault}
-use Rattle.asm_explore_words.specs.declared.fault.Fault.TheVariants.{Memory, Words}
+use Rattle.asm_explore_words.specs.CommandLine.{command, command_refusals, most_unsigned, outcomes_option, refusals, random_command, random_refusals, run_command, run_refusals, runs_option, states_option, steps_or_else}
+use Rattle.asm_explore_words.specs.declared.settings.WordFault.{WordFault}
+use Rattle.asm_explore_words.specs.declared.settings.WordFault.TheVariants.{Memory, Words}
 use Rattle.asm_explore_words.specs.declared.settings.RandomSettings.{RandomSettings}
 use Rattle.asm_explore_words.specs.declared.settings.RunSettings.{RunSettings}
 use Rattle.asm_explore_words.specs.declared.settings.Settings.{Settings}
@@ -177,25 +181,16 @@ AreRunSaid words settings = AreRunTaken words × AreRunRead (run_rows words) set
 
 -- ---- faults
 
-abbrev pub Explains : List Text → Fault → Type 0
-Explains words Memory = ⊤
-Explains words (Words error) = IsAmong (kind_of error) (refusals words)
-Explains words _ = ⊥
+abbrev pub IsRefusal : Kinds → WordFault → Type 0
+IsRefusal kinds Memory = ⊤
+IsRefusal kinds (Words error) = IsAmong (kind_of error) kinds
 
-abbrev pub ExplainsRandom : List Text → Fault → Type 0
-ExplainsRandom words Memory = ⊤
-ExplainsRandom words (Words error) = IsAmong (kind_of error) (random_refusals words)
-ExplainsRandom words _ = ⊥
+abbrev pub one_run_refusals : List Text → Kinds
+one_run_refusals words = kinds.or_else (run_refusals words) (cond (are_both_input words) (ArgumentConflict ∷ []) [])
 
-abbrev pub ExplainsRun : List Text → Fault → Type 0
-ExplainsRun words Memory = ⊤
-ExplainsRun words (Words error) = IsAmong (kind_of error) (run_refusals words) ⊎ ((are_both_input words ≡ true) × (kind_of error ≡ ArgumentConflict))
-ExplainsRun words _ = ⊥
-
-abbrev pub IsFaultOf : Error → Fault → Type 0
+abbrev pub IsFaultOf : Error → WordFault → Type 0
 IsFaultOf error Memory = kind_of error ≡ OutOfMemory
 IsFaultOf error (Words e) = (e ≡ error) × ¬ (kind_of error ≡ OutOfMemory)
-IsFaultOf error _ = ⊥
 
 -- ---- after the command
 
@@ -210,8 +205,17 @@ AreSaidBehind (command ∷ words) (Random settings) = (command ≡ codes "random
 AreSaidBehind (command ∷ words) (Choices settings) = (command ≡ codes "choices") × AreRunSaid words settings
 AreSaidBehind (command ∷ words) (Clash settings) = (command ≡ codes "clash") × AreRunSaid words settings
 
-abbrev pub ExplainsBehind : List Text → Fault → Type 0
-ExplainsBehind [] fault = ⊤
-ExplainsBehind (command ∷ words) fault =
-    (command ≡ codes "all" → Explains words fault) × (command ≡ codes "random" → ExplainsRandom words fault)
-    × (IsOfRun command → ExplainsRun words fault)
+-- the kinds of what is wrong with the words after this command; `words` are all words
+abbrev pub refusals_behind : (command : Text) → (rest words : List Text) → Kinds
+refusals_behind command rest words =
+    cond (bytes_eq command (codes "all")) (refusals rest)
+    (cond (bytes_eq command (codes "random")) (random_refusals rest)
+    (cond (bytes_eq command (codes "choices") || bytes_eq command (codes "clash")) (one_run_refusals rest)
+    (command_refusals words)))
+
+abbrev pub task_refusals : List Text → Kinds
+task_refusals [] = command_refusals []
+task_refusals (command ∷ words) = refusals_behind command words (command ∷ words)
+
+abbrev pub AskForHelp : Kinds → Type 0
+AskForHelp kinds = IsAmong DisplayHelp kinds ⊎ IsAmong DisplayVersion kinds

@@ -3,20 +3,19 @@ ghost use Rattle.std.specs.Prelude.{◌≡◌, ◌∷◌, [], Some, map, option_
 ghost use Rattle.clap.specs.Kinds.{HasKind};
 ghost use Rattle.clap.specs.Values.{kind_of};
 ghost use Rattle.clap.specs.Walk.{texts};
-ghost use Rattle.clap.specs.Words.{app_of, first_value, found_of, rows_of};
+ghost use Rattle.clap.specs.Words.{App, app_of, first_value, found_of, rows_of, with_subcommand};
 ghost use Rattle.clap.specs.declared.error.kind.ErrorKind.TheVariants.{ArgumentConflict, OutOfMemory};
 ghost use Rattle.asm_arguments.specs.Numbers.{HaveNumbers};
 ghost use Rattle.asm_explore_words.specs.CommandLine as line;
-ghost use Rattle.asm_explore_words.specs.CommandLine.{refusals, run_refusals};
-ghost use Rattle.asm_explore_words.specs.WordsSaid.{AreParsed, AreRead, AreRunParsed, AreRunRead, AreRunSaid, AreSaid, AreSaidBehind, Explains, ExplainsBehind, ExplainsRandom, ExplainsRun, IsFaultOf, are_in_range, are_run_in_range, is_task_in_range, number_options, run_number_options, run_rows};
+ghost use Rattle.asm_explore_words.specs.CommandLine.{command_refusals, named, random_refusals, refusals, run_refusals};
+ghost use Rattle.asm_explore_words.specs.WordsSaid.{AreParsed, AreRead, AreRunParsed, AreRunRead, AreRunSaid, AreSaid, AreSaidBehind, IsRefusal, are_in_range, are_run_in_range, is_task_in_range, number_options, one_run_refusals, run_number_options, run_rows, task_refusals};
 
 use crate::arguments::{is_set, texts_of};
 use crate::commands::{Argument, described, with_arguments};
-use crate::fault::Fault;
 use crate::help;
 use crate::number_options::{OUTCOMES, RUN_STEPS, STATES, STEPS, TURNS, WORKERS};
 use crate::random_words::{random, random_settings};
-use crate::settings::{RunSettings, Settings, Task, is_standard_input};
+use crate::settings::{RunSettings, Settings, Task, WordFault, is_standard_input};
 use crate::text_options::{
     ALWAYS, ALWAYS_FILE, DEADLOCK_UNLESS, DOT, PROGRESS, SCRIPT, TRACE, WITHIN,
 };
@@ -69,23 +68,13 @@ static RUN_ARGUMENTS: [Argument; 4] = [
     SCRIPT,
 ];
 
-impl<'w> From<Error> for Fault<'w> {
-    ghost from_gives = { λ error fault. IsFaultOf error fault };
-
-    fn from(error: Error) -> Fault<'w> {
-        match error.kind() {
-            ErrorKind::OutOfMemory => Fault::Memory,
-            _ => Fault::Words(error),
-        }
-    }
-}
-
 /// The command and the settings that the words give, the program's name not among them. The first
 /// word names the command.
-pub fn settings<'w, S: AsStr>(alloc: Global, words: &'w [S]) -> Result<Task<'w>, Fault<'w>>
+pub fn settings<'w, S: AsStr>(alloc: Global, words: &'w [S]) -> Result<Task<'w>, WordFault>
     ensures in_range { IfOk result (λ task. IsTrue (is_task_in_range task)) }
     ensures said { IfOk result (AreSaidBehind (map S.text words.entry.now)) }
-    ensures refused { IfErr result (ExplainsBehind (map S.text words.entry.now)) }
+    ensures taken { IfOk result (λ _. task_refusals (map S.text words.entry.now) ≡ []) }
+    ensures refused { IfErr result (IsRefusal (task_refusals (map S.text words.entry.now))) }
 {
     match words.split_first() {
         Some((command, words)) if command.as_str() == ALL => all_task(alloc, words),
@@ -104,20 +93,20 @@ pub fn settings<'w, S: AsStr>(alloc: Global, words: &'w [S]) -> Result<Task<'w>,
 }
 
 /// What the words after `all` ask for.
-fn all_task<'w, S: AsStr>(alloc: Global, words: &'w [S]) -> Result<Task<'w>, Fault<'w>>
+fn all_task<'w, S: AsStr>(alloc: Global, words: &'w [S]) -> Result<Task<'w>, WordFault>
     ensures in_range { IfOk result (λ task. IsTrue (is_task_in_range task)) }
     ensures said { IfOk result (AreSaidBehind (codes "all" ∷ map S.text words.entry.now)) }
-    ensures refused { IfErr result (Explains (map S.text words.entry.now)) }
+    ensures refused { IfErr result (IsRefusal (refusals (map S.text words.entry.now))) }
 {
     let settings = all_settings(alloc, words)?;
     Ok(Task::All(settings))
 }
 
 /// What the words after `random` ask for.
-fn random_task<'w, S: AsStr>(alloc: Global, words: &'w [S]) -> Result<Task<'w>, Fault<'w>>
+fn random_task<'w, S: AsStr>(alloc: Global, words: &'w [S]) -> Result<Task<'w>, WordFault>
     ensures in_range { IfOk result (λ task. IsTrue (is_task_in_range task)) }
     ensures said { IfOk result (AreSaidBehind (codes "random" ∷ map S.text words.entry.now)) }
-    ensures refused { IfErr result (ExplainsRandom (map S.text words.entry.now)) }
+    ensures refused { IfErr result (IsRefusal (random_refusals (map S.text words.entry.now))) }
 {
     let settings = random_settings(alloc, words)?;
     Ok(Task::Random(settings))
@@ -186,10 +175,10 @@ fn run_settings<'w, S: AsStr>(
     called: &'w str,
     about: &'w str,
     words: &'w [S],
-) -> Result<RunSettings<'w>, Fault<'w>>
+) -> Result<RunSettings<'w>, WordFault>
     ensures in_range { IfOk result (λ s. IsTrue (are_run_in_range s)) }
     ensures said { IfOk result (AreRunSaid (map S.text words.entry.now)) }
-    ensures refused { IfErr result (ExplainsRun (map S.text words.entry.now)) }
+    ensures refused { IfErr result (IsRefusal (one_run_refusals (map S.text words.entry.now))) }
 {
     let settings = run_given(alloc, called, about, words)?;
     if is_standard_input(Some(settings.spec)) && is_standard_input(settings.script) {
@@ -263,7 +252,9 @@ fn run_command<'w>(
 }
 
 /// The fault of words that don't begin with a command.
-fn without_command<'w, S: AsStr>(alloc: Global, words: &'w [S]) -> Fault<'w> {
+fn without_command<S: AsStr>(alloc: Global, words: &[S]) -> WordFault
+    ensures { IsRefusal (command_refusals (map S.text words.entry.now)) result }
+{
     match commands(alloc) {
         Ok(mut commands) => {
             let error = refused(&mut commands, words);
@@ -275,7 +266,10 @@ fn without_command<'w, S: AsStr>(alloc: Global, words: &'w [S]) -> Fault<'w> {
 }
 
 /// What is to be said of these words, which don't begin with one of the commands.
-fn refused<'w, S: AsStr>(commands: &mut Command<'w>, words: &'w [S]) -> Error {
+fn refused<'w, S: AsStr>(commands: &mut Command<'w>, words: &'w [S]) -> Error
+    requires { app_of commands.old ≡ line.commands }
+    ensures { HasKind (command_refusals (map S.text words.entry.now)) result }
+{
     match commands.try_get_matches_from_mut(words) {
         Ok(matches) => {
             drop(matches);
@@ -289,7 +283,9 @@ fn refused<'w, S: AsStr>(commands: &mut Command<'w>, words: &'w [S]) -> Error {
 }
 
 /// The commands.
-fn commands<'w>(alloc: Global) -> Result<Command<'w>, AllocError> {
+fn commands<'w>(alloc: Global) -> Result<Command<'w>, AllocError>
+    ensures { IfOk result (λ c. app_of c ≡ line.commands) }
+{
     let commands = Command::new(alloc, help::NAME)
         .bin_name(help::NAME)?
         .version(help::VERSION)
@@ -310,6 +306,8 @@ fn with<'w>(
     commands: Command<'w>,
     name: &'w str,
     command: Result<Command<'w>, AllocError>,
-) -> Result<Command<'w>, AllocError> {
+) -> Result<Command<'w>, AllocError>
+    ensures { (app : App) → app.top.is_plain ≡ true → IfOk command.entry (λ c. app_of c ≡ app) → IfOk result (λ c. app_of c ≡ with_subcommand (app_of commands.entry) (named name.entry.now app)) }
+{
     commands.subcommand(command?.name(name))
 }

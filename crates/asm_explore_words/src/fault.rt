@@ -1,6 +1,5 @@
-//! Why the program ends without a report.
+//! What is wrong with a text, and why there is no report.
 ghost use Rattle.std.specs.Prelude.{◌≡◌};
-ghost use Rattle.asm_explore_words.specs.Faults.{status_of_fault};
 ghost use Rattle.asm_explore_words.specs.declared.fault.Fault.TheVariants.{Memory};
 
 use asm_check::CheckError;
@@ -50,42 +49,17 @@ pub struct RefusedText<'w> {
     pub at: Option<usize>,
 }
 
-/// What ends the program early.
+/// Why there is no report.
 #[derive(Debug, Drop)]
 pub enum Fault<'w> {
-    /// The words ask for help or the version, or can't be understood.
-    Words(clap::Error),
-    /// A word isn't text.
-    NotText,
     /// The specification, the script or a condition is refused.
     Text(RefusedText<'w>),
     /// Memory ran out.
     Memory,
-    /// A file can't be read.
-    File(Source<'w>),
-    /// The report can't be written.
-    Write,
     /// The graph of states can't be written to the file of this name.
     Graph(&'w str),
     /// The run under the script that was found ends otherwise than it was found to.
     Unconfirmed,
-    /// The choices of the run have no script that isn't too long, and has no number of more than
-    /// nine digits.
-    Unwritten,
-}
-
-impl Fault<'_> {
-    /// The program's status.
-    pub fn status(&self) -> u8
-        ensures { result ≡ status_of_fault self.now }
-    {
-        match self {
-            Fault::Text(_) => 2,
-            Fault::Memory | Fault::File(_) | Fault::Write | Fault::Graph(_) => 3,
-            Fault::Unconfirmed | Fault::Unwritten => 3,
-            Fault::Words(_) | Fault::NotText => 4,
-        }
-    }
 }
 
 impl<'w> From<AllocError> for Fault<'w> {

@@ -1,6 +1,11 @@
 //! What the program is asked to do.
 ghost use Rattle.std.specs.Prelude.{◌≡◌, option_map};
-ghost use Rattle.asm_explore_words.specs.WordsSaid.{is_input};
+ghost use Rattle.asm_explore_words.specs.WordsSaid.{IsFaultOf, is_input};
+ghost use Rattle.asm_explore_words.specs.declared.settings.WordFault.TheVariants.{Memory};
+
+use clap::Error;
+use clap::error::ErrorKind;
+use std::alloc::AllocError;
 
 /// What the words ask for: a command, with its settings.
 #[derive(Debug, Drop)]
@@ -80,6 +85,34 @@ pub struct RunSettings<'w> {
     pub turns: u32,
     /// The name of the script's file, if there is one; `-` is standard input.
     pub script: Option<&'w str>,
+}
+
+/// Why words ask for nothing that can be done.
+#[derive(Debug, Drop)]
+pub enum WordFault {
+    /// Memory ran out.
+    Memory,
+    /// They ask for help or the version, or can't be understood.
+    Words(Error),
+}
+
+impl From<AllocError> for WordFault {
+    ghost from_gives = { λ _ fault. fault ≡ Memory };
+
+    fn from(_error: AllocError) -> WordFault {
+        WordFault::Memory
+    }
+}
+
+impl From<Error> for WordFault {
+    ghost from_gives = { λ error fault. IsFaultOf error fault };
+
+    fn from(error: Error) -> WordFault {
+        match error.kind() {
+            ErrorKind::OutOfMemory => WordFault::Memory,
+            _ => WordFault::Words(error),
+        }
+    }
 }
 
 /// Whether the file with this name is standard input.

@@ -28,7 +28,8 @@ use Rattle.asm_run.specs.declared.end.End.TheVariants.{Limit, Clash, Outside, Ex
 use Rattle.asm_run.specs.declared.error.RunError.{RunError}
 use Rattle.asm_run.specs.declared.error.RunError.TheVariants as error
 use Rattle.asm_limits.specs.declared.run_limits.Limits.{Limits}
-use Rattle.asm_tool.specs.Statuses.{IsFront, OfWords, StatusTells, TellsOfWords, bytes_of, run_fault, status_at, status_of}
+use Rattle.asm_files.specs.Input.{IsFront, bytes_of}
+use Rattle.asm_tool.specs.Statuses.{OfWords, StatusTells, TellsOfWords, run_fault, status_at, status_of}
 use Rattle.asm_tool.specs.CommandLine.{command}
 use Rattle.asm_arguments.specs.Numbers.{IsNumber}
 use Rattle.asm_tool.specs.WordsSaid.{AreSaid}

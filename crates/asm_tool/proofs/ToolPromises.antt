@@ -1,6 +1,6 @@
 -- Free. What is written, and what a fault says, from what the result of the run says.
 use Rattle.std.proofs.Common.{◌≡◌, ◌≤◌, ◌<◌, ◌⊎◌, ◌∙◌, ℕ, true, false, List, [], Option, None, Some, append-nil, codes, inl, inr, refl, sym, subst, arith}
-use Rattle.std.specs.Prelude.{Err, IfErr, IfOk, IfSome, Ok, Result, length, option_map, take}
+use Rattle.std.specs.Prelude.{◌↔◌, ◌||◌, Bool, Err, IfErr, IfOk, IfSome, IsTrue, Ok, Result, length, option_map, take}
 use Rattle.std.proofs.lemmas.Bool.{cases_lt}
 use Rattle.std.proofs.lemmas.List.{take_all}
 use Rattle.std.specs.Io.KnownBytes.{Appends, Keeps}
@@ -32,7 +32,10 @@ use Rattle.asm_tool.specs.CommandLine.{command}
 use Rattle.asm_arguments.specs.Numbers.{IsNumber}
 use Rattle.asm_tool.specs.WordsSaid.{AreSaid}
 use Rattle.asm_tool.specs.ToolPromises.{Explains, ExplainsOfWords, HasRun, IsWholeTrace, LeavesUnwritten}
-use Rattle.asm_tool.specs.Statuses.{IsFront, IsReadFault, OfWords, bytes_of, run_fault, settings_fault, status_at, status_of}
+use Rattle.asm_files.specs.Input.{IsFront, bytes_of}
+use Rattle.asm_files.specs.declared.fault.ReadFault.{ReadFault}
+use Rattle.asm_files.specs.declared.fault.ReadFault.TheVariants as unread
+use Rattle.asm_tool.specs.Statuses.{OfWords, read_fault, run_fault, settings_fault, status_at, status_of}
 use Rattle.asm_tool.specs.declared.fault.Fault.{Fault}
 use Rattle.asm_tool.specs.declared.fault.Fault.TheVariants.{Words, NotText, Read, Check, Script, Memory, File, Write}
 use Rattle.asm_tool.specs.declared.settings.Settings.{Settings}
@@ -104,6 +107,26 @@ module _ (old mid new : Option (List ℕ)) (kept : Keeps mid new) where
     run_unwritten error.Limits h = tt
     run_unwritten error.Memory h = tt
     run_unwritten error.Write h = tt
+
+-- ---- whether the output failed
+
+-- A sink that failed in a run stays failed when what it keeps back is handed on.
+pub run_failed : (text script_text : List ℕ) (limits : Limits) (old mid : Option (List ℕ)) → are_in_range limits ≡ true
+    → (e : RunError) → run.Explains text script_text limits old mid e → (r : Result End RunError) → r ≡ Err e
+    → (a b c : Bool) → (IsTrue a ↔ (r ≡ Err error.Write)) → b ≡ (a || c) → run_fault e ≡ Write → IsTrue b
+run_failed text script_text limits old mid ranges (error.Read e) h r answer a b c failed new is = cc
+run_failed text script_text limits old mid ranges (error.Check e) h r answer a b c failed new is = cc
+run_failed text script_text limits old mid ranges (error.Script e) h r answer a b c failed new is = cc
+run_failed text script_text limits old mid ranges error.Limits h r answer a b c failed new is =
+    let no : are_in_range limits ≡ false = h.4 in absurd cc
+run_failed text script_text limits old mid ranges error.Memory h r answer a b c failed new is = cc
+run_failed text script_text limits old mid ranges error.Write h r answer a b c failed new is =
+    let a_failed : a ≡ true = failed.1 answer in rw (new, a_failed) refl
+
+-- A sink that can't hand on what it keeps back has failed.
+pub finish_failed : (a b : Bool) → b ≡ (a || true) → IsTrue b
+finish_failed true b new = new
+finish_failed false b new = new
 
 -- ---- of bytes that are read no further than they can matter
 
@@ -192,12 +215,13 @@ module _ (words : List Text) (contents : Text → Option (List ℕ)) (input old 
         words contents input s text script_text said read read_script (of_slices (IsWholeTrace old new) h)
     whole_of_words (Err e) h = tt
 
-    pub explains_of_words : (r : Result EndKind Fault) → IfErr r (λ fault. Explains fault old new slice script_slice s.limits) → IfErr r (λ fault. LeavesUnwritten fault old new)
-        → IfErr r (ExplainsOfWords words contents input old new)
-    explains_of_words (Ok e) h unwritten = tt
-    explains_of_words (Err fault) h unwritten = record {
+    pub explains_of_words : (out_failed : Bool) (r : Result EndKind Fault) → IfErr r (λ fault. Explains fault old new slice script_slice s.limits) → IfErr r (λ fault. LeavesUnwritten fault old new)
+        → IfErr r (λ fault. fault ≡ Write → IsTrue out_failed) → IfErr r (ExplainsOfWords words contents input old new out_failed)
+    explains_of_words out_failed (Ok e) h unwritten failed = tt
+    explains_of_words out_failed (Err fault) h unwritten failed = record {
       texts = holds_of_words (Explains fault old new) (explains_fronts old new fault) (explains_alike old new fault) words contents input s text script_text said read read_script (of_slices (Explains fault old new) h);
       unwritten = unwritten;
+      failed = failed;
     }
 
 -- ---- of faults that come before the run
@@ -215,22 +239,23 @@ module _ (words : List Text) (contents : Text → Option (List ℕ)) (input old 
       of_known (Some bytes) None = tt
       of_known (Some bytes) (Some script_bytes) = λ l steps turns. all bytes script_bytes l
 
-  early_memory : ExplainsOfWords words contents input old old Memory
-  early_memory = record { texts = of_all (Explains Memory old old) (λ a b l. inl (same_unwritten old)); unwritten = tt }
+  module _ (out_failed : Bool) where
+    early_memory : ExplainsOfWords words contents input old old out_failed Memory
+    early_memory = record { texts = of_all (Explains Memory old old) (λ a b l. inl (same_unwritten old)); unwritten = tt; failed = λ e. cc }
 
-  early_file : ExplainsOfWords words contents input old old File
-  early_file = record { texts = of_all (Explains File old old) (λ a b l. tt); unwritten = same_unwritten old }
+    early_file : ExplainsOfWords words contents input old old out_failed File
+    early_file = record { texts = of_all (Explains File old old) (λ a b l. tt); unwritten = same_unwritten old; failed = λ e. cc }
 
-  early_words : (e : Error) → ExplainsOfWords words contents input old old (Words e)
-  early_words e = record { texts = of_all (Explains (Words e) old old) (λ a b l. tt); unwritten = same_unwritten old }
+    early_words : (e : Error) → ExplainsOfWords words contents input old old out_failed (Words e)
+    early_words e = record { texts = of_all (Explains (Words e) old old) (λ a b l. tt); unwritten = same_unwritten old; failed = λ e. cc }
 
-  pub at_read : (fault : Fault) → IsReadFault fault → ExplainsOfWords words contents input old old fault
-  at_read fault (inl memory) = subst (λ (f : Fault). ExplainsOfWords words contents input old old f) (sym memory) early_memory
-  at_read fault (inr file) = subst (λ (f : Fault). ExplainsOfWords words contents input old old f) (sym file) early_file
+    pub at_read : (r : ReadFault) → ExplainsOfWords words contents input old old out_failed (read_fault r)
+    at_read unread.Memory = early_memory
+    at_read unread.File = early_file
 
-  pub at_words : (w : WordFault) → ExplainsOfWords words contents input old old (settings_fault w)
-  at_words word.Memory = early_memory
-  at_words (word.Words e) = early_words e
+    pub at_words : (w : WordFault) → ExplainsOfWords words contents input old old out_failed (settings_fault w)
+    at_words word.Memory = early_memory
+    at_words (word.Words e) = early_words e
 
 -- ---- statuses
 

@@ -1,15 +1,13 @@
 -- Definition. The statuses that the program ends with.
 --     status_of fault                               the status of a fault
---     word_fault, read_fault, buffer_fault          the fault of words, of a read or of a buffer
---                                                   that failed with an error of this kind
+--     no_words, read_fault, settings_fault          the fault where words or a text can't be had, or
+--                                                   words give no settings
 --     run_fault error                               the fault of a refused run
 --     StatusTells text script_text limits status    0: their run makes all its steps; 1: it ends
 --                                                   before; 2: one of the texts is refused
 --     OfWords words contents input P                P holds of the texts that the words name
 --     TellsOfWords words contents input status      what the status tells of them
-use Rattle.std.specs.Prelude.{◌≡◌, ◌≢◌, ◌≤◌, ◌⊎◌, ℕ, List, [], Option, None, Some, IfSome, Ok, Err, Result, codes, take}
-use Rattle.std.specs.declared.io.ErrorKind.{ErrorKind}
-use Rattle.std.specs.declared.io.ErrorKind.TheVariants.{OutOfMemory}
+use Rattle.std.specs.Prelude.{◌≡◌, ◌≢◌, ◌≤◌, ◌⊎◌, ℕ, List, [], Option, Some, IfSome, Ok, Err, Result, codes}
 use Rattle.clap.specs.Simple.{matches_of}
 use Rattle.clap.specs.Walk.{Row, Text, first_of}
 use Rattle.asm_run.specs.ResultsTell.{EndsEarly, IsRefused, MakesAllSteps}
@@ -18,6 +16,11 @@ use Rattle.asm_run.specs.declared.end.EndKind.TheVariants.{Limit, Clash, Outside
 use Rattle.asm_run.specs.declared.error.RunError.{RunError}
 use Rattle.asm_run.specs.declared.error.RunError.TheVariants as run
 use Rattle.asm_limits.specs.declared.run_limits.Limits.{Limits}
+use Rattle.asm_files.specs.Input.{bytes_of}
+use Rattle.asm_files.specs.declared.fault.NoWords.{NoWords}
+use Rattle.asm_files.specs.declared.fault.NoWords.TheVariants as absent
+use Rattle.asm_files.specs.declared.fault.ReadFault.{ReadFault}
+use Rattle.asm_files.specs.declared.fault.ReadFault.TheVariants as unread
 use Rattle.asm_tool.specs.CommandLine.{command, refusals}
 use Rattle.asm_arguments.specs.Numbers.{IsNumber}
 use Rattle.asm_tool.specs.declared.fault.Fault.{Fault}
@@ -35,21 +38,13 @@ status_of Write = 3
 status_of (Words error) = 4
 status_of NotText = 4
 
-abbrev pub word_fault : ErrorKind → Fault
-word_fault OutOfMemory = Memory
-word_fault kind = NotText
+abbrev pub no_words : NoWords → Fault
+no_words absent.Memory = Memory
+no_words absent.NotText = NotText
 
-abbrev pub read_fault : ErrorKind → Fault
-read_fault OutOfMemory = Memory
-read_fault kind = File
-
--- a fault of a read that failed
-abbrev pub IsReadFault : Fault → Type 0
-IsReadFault fault = (fault ≡ Memory) ⊎ (fault ≡ File)
-
-abbrev pub buffer_fault : ErrorKind → Fault
-buffer_fault OutOfMemory = Memory
-buffer_fault kind = Write
+abbrev pub read_fault : ReadFault → Fault
+read_fault unread.Memory = Memory
+read_fault unread.File = File
 
 abbrev pub settings_fault : WordFault → Fault
 settings_fault word.Memory = Memory
@@ -89,15 +84,6 @@ status_in (Ok end) = status_at end
 status_in (Err fault) = status_of fault
 
 -- ---- of words
-
--- the bytes of the file with this name, or these if there is no name
-abbrev pub bytes_of : (contents : Text → Option (List ℕ)) → Option (List ℕ) → Option Text → Option (List ℕ)
-bytes_of contents others None = others
-bytes_of contents others (Some name) = contents name
-
--- known bytes, or `most` of them if there are more
-abbrev pub IsFront : Option (List ℕ) → ℕ → List ℕ → Type 0
-IsFront known most text = IfSome known (λ bytes. text ≡ take most bytes)
 
 -- this holds of the text and of the script that these words name, if their bytes are known, and
 -- of limits with the steps and turns that the words give; a script that isn't named has no bytes

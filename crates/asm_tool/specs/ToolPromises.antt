@@ -8,6 +8,8 @@
 --     IsSaid old new failed line             known bytes grow by the line, or by a front of it
 --                                            if the writer has failed
 --     Explains fault old new                 what a fault says of texts and of what is written
+--     ExplainsOfWords                        the same of the texts that words name, and that the
+--                                            output failed, if the fault is that
 --     IsExplained                            some fault says why the status is what it is
 use Rattle.std.specs.Prelude.{◌≡◌, ◌⊎◌, ℕ, Bool, List, ◌++◌, Option, None, Some, IfSome, IsTrue, codes, decimal, ⊤}
 use Rattle.std.specs.Io.KnownBytes.{Appends}
@@ -89,11 +91,11 @@ Explains Memory old new text script_text limits = IsUnwritten old new ⊎ AreFir
 Explains Write old new text script_text limits = IsFrontOfTrace old new text script_text limits ⊎ IsWholeTrace old new text script_text limits
 Explains fault old new text script_text limits = ⊤
 
-module _ (words : List Text) (contents : Text → Option (List ℕ)) (input : Option (List ℕ)) (old new : Option (List ℕ)) where
-  -- what a fault says of the texts that these words name, and of what is written
+module _ (words : List Text) (contents : Text → Option (List ℕ)) (input : Option (List ℕ)) (old new : Option (List ℕ)) (out_failed : Bool) where
   pub record ExplainsOfWords (fault : Fault) : Type 0 where
     pub texts : OfWords words contents input (Explains fault old new)
     pub unwritten : LeavesUnwritten fault old new
+    pub failed : fault ≡ Write → IsTrue out_failed
 
   -- A fault with this status says so, and it alone is what is said on standard error.
   pub record IsExplained (status : ℕ) (err_old err_new : Option (List ℕ)) (err_failed : Bool) : Type 0 where

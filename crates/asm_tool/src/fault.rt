@@ -1,13 +1,12 @@
 //! Why the program ends without the whole trace.
 ghost use Rattle.std.specs.Prelude.{◌≡◌};
-ghost use Rattle.std.specs.IoError.{error_kind};
-ghost use Rattle.asm_tool.specs.Statuses.{buffer_fault, read_fault, settings_fault, status_of, word_fault};
+ghost use Rattle.asm_tool.specs.Statuses.{no_words, read_fault, settings_fault, status_of};
 ghost use Rattle.asm_tool.specs.declared.fault.Fault.TheVariants.{Memory};
 
 use crate::settings::WordFault;
+use asm_files::fault::{NoWords, ReadFault};
 use asm_run::error::{CheckError, ReadError, ScriptError};
 use std::alloc::AllocError;
-use std::io;
 
 /// What ends the program early.
 #[derive(Debug, Drop)]
@@ -41,34 +40,26 @@ impl Fault {
             Fault::Words(_) | Fault::NotText => 4,
         }
     }
+}
 
-    /// The fault of words that can't be had.
-    pub fn of_words(error: &io::Error) -> Fault
-        ensures { result ≡ word_fault (error_kind error.now) }
-    {
-        match error.kind() {
-            io::ErrorKind::OutOfMemory => Fault::Memory,
-            _ => Fault::NotText,
+impl From<NoWords> for Fault {
+    ghost from_gives = { λ words fault. fault ≡ no_words words };
+
+    fn from(fault: NoWords) -> Fault {
+        match fault {
+            NoWords::Memory => Fault::Memory,
+            NoWords::NotText => Fault::NotText,
         }
     }
+}
 
-    /// The fault of a read that failed.
-    pub fn of_read(error: &io::Error) -> Fault
-        ensures { result ≡ read_fault (error_kind error.now) }
-    {
-        match error.kind() {
-            io::ErrorKind::OutOfMemory => Fault::Memory,
-            _ => Fault::File,
-        }
-    }
+impl From<ReadFault> for Fault {
+    ghost from_gives = { λ read fault. fault ≡ read_fault read };
 
-    /// The fault of a buffer for the trace that can't be had.
-    pub fn of_buffer(error: &io::Error) -> Fault
-        ensures { result ≡ buffer_fault (error_kind error.now) }
-    {
-        match error.kind() {
-            io::ErrorKind::OutOfMemory => Fault::Memory,
-            _ => Fault::Write,
+    fn from(fault: ReadFault) -> Fault {
+        match fault {
+            ReadFault::Memory => Fault::Memory,
+            ReadFault::File => Fault::File,
         }
     }
 }

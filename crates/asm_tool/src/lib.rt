@@ -4,9 +4,6 @@
 pub mod command_line;
 pub mod fault;
 mod fault_line;
-pub mod folder;
 mod help;
-pub mod input;
-pub mod output;
 pub mod settings;
 pub mod status;

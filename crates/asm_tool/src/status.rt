@@ -5,13 +5,14 @@ ghost use Rattle.asm_tool.specs.CommandLine.{refusals};
 ghost use Rattle.std.specs.Io.KnownBytes.{Keeps};
 ghost use Rattle.asm_tool.specs.ToolPromises.{Explains, ExplainsOfWords, IsExplained, IsSaid, IsWholeTrace, LeavesUnwritten, line_of};
 ghost use Rattle.asm_tool.specs.Statuses.{IsFaultOfWords, OfWords, StatusTells, TellsOfWords, run_fault, status_at, status_in, status_of};
+ghost use Rattle.asm_tool.specs.declared.fault.Fault.TheVariants.{Write};
 
 use crate::command_line::settings;
 use crate::fault::Fault;
 use crate::fault_line::say;
-use crate::folder::Folder;
-use crate::input;
-use crate::output::Finish;
+use asm_files::folder::Folder;
+use asm_files::input;
+use asm_files::output::Finish;
 use asm_limits::run_limits::Limits;
 use asm_run::end::EndKind;
 use asm_run::error::RunError;
@@ -51,8 +52,8 @@ pub fn status<
     ensures finished { result ≤ 1 → IsTrue (O.is_finished out.new) }
     ensures quiet { result ≤ 1 → Keeps (E.bytes err.old) (E.bytes err.new) }
     // 2 to 4: a fault with this status says why, of the texts and of what is written, and its line
-    // alone is said.
-    ensures explained { 2 ≤ result → IsExplained (map S.text words.entry.now) (F.contents folder.now) (I.remaining input) (O.bytes out.old) (O.bytes out.new) result (E.bytes err.old) (E.bytes err.new) (E.has_failed err.new) }
+    // alone is said. That the output can't be written is such a fault only if it failed.
+    ensures explained { 2 ≤ result → IsExplained (map S.text words.entry.now) (F.contents folder.now) (I.remaining input) (O.bytes out.old) (O.bytes out.new) (O.has_failed out.new) result (E.bytes err.old) (E.bytes err.new) (E.has_failed err.new) }
 {
     match run_words(rt, folder, words, input, out) {
         Ok(end) => whole_trace(end),
@@ -93,7 +94,7 @@ fn run_words<R: Threads + Sync + AllocGlobal, F: Folder, S: AsStr, I: Read + Dro
     ensures refused { IfErr result (IsFaultOfWords (map S.text words.entry.now)) }
     ensures told { TellsOfWords (map S.text words.entry.now) (F.contents folder.now) (I.remaining input) (status_in result) }
     ensures wrote { IfOk result (λ _. OfWords (map S.text words.entry.now) (F.contents folder.now) (I.remaining input) (IsWholeTrace (O.bytes out.old) (O.bytes out.new))) }
-    ensures explained { IfErr result (ExplainsOfWords (map S.text words.entry.now) (F.contents folder.now) (I.remaining input) (O.bytes out.old) (O.bytes out.new)) }
+    ensures explained { IfErr result (ExplainsOfWords (map S.text words.entry.now) (F.contents folder.now) (I.remaining input) (O.bytes out.old) (O.bytes out.new) (O.has_failed out.new)) }
     ensures finished { IfOk result (λ _. IsTrue (O.is_finished out.new)) }
 {
     let alloc = rt.alloc();
@@ -125,6 +126,7 @@ fn run_texts<R: Threads + Sync, O: Finish>(
     ensures wrote { IfOk result (λ _. IsWholeTrace (O.bytes out.old) (O.bytes out.new) text.now script.now limits.now) }
     ensures explained { IfErr result (λ fault. Explains fault (O.bytes out.old) (O.bytes out.new) text.now script.now limits.now) }
     ensures unwritten { IfErr result (λ fault. LeavesUnwritten fault (O.bytes out.old) (O.bytes out.new)) }
+    ensures failed { IfErr result (λ fault. fault ≡ Write → IsTrue (O.has_failed out.new)) }
     ensures told { StatusTells text.now script.now limits.now (status_in result) }
     ensures finished { IfOk result (λ _. IsTrue (O.is_finished out.new)) }
 {

@@ -1,8 +1,9 @@
 //! The settings that words give, and words that can't be had.
+use asm_files::fault::NoWords;
+use asm_files::output::Through;
 use asm_limits::run_limits::{DEFAULTS, Limits};
 use asm_tool::command_line::settings;
 use asm_tool::fault::Fault;
-use asm_tool::output::Through;
 use asm_tool::settings::{Settings, WordFault};
 use asm_tool::status::refusal;
 use std::alloc::Global;
@@ -60,7 +61,7 @@ fn each_word_is_read(rt: HostRuntime) -> Result<(), WordFault> {
 /// Whether words that can't be had for such an error are refused with this status and this line.
 fn are_refused(alloc: Global, error: io::ErrorKind, status: u8, wanted: &[u8]) -> bool {
     let mut line = Vec::new(alloc);
-    let fault = Fault::of_words(&io::Error::from(error));
+    let fault = Fault::from(NoWords::of(&io::Error::from(error)));
     let found = refusal(&fault, &mut Through::new(&mut line));
     found == status && line.as_slice() == wanted
 }

@@ -2,9 +2,9 @@
 ghost use Rattle.std.specs.Prelude.{None};
 
 use crate::shown::{COUNTER, Shown, THREE_STEPS, WORDS, shown_by};
-use asm_tool::fault::Fault;
-use asm_tool::folder::Folder;
-use asm_tool::input::script;
+use asm_files::fault::ReadFault;
+use asm_files::folder::Folder;
+use asm_files::input::script;
 use std::io;
 use std::io::Read;
 
@@ -140,7 +140,7 @@ fn the_script_is_read_behind_the_text(rt: HostRuntime) {
 }
 
 #[test]
-fn a_script_is_read_as_far_as_is_asked_for(rt: HostRuntime) -> Result<(), Fault> {
+fn a_script_is_read_as_far_as_is_asked_for(rt: HostRuntime) -> Result<(), ReadFault> {
     for (most, bytes) in [(0, ""), (3, "123"), (5, "12345"), (6, "12345")] {
         let script = script(&Fives, rt.alloc(), Some("five"), most)?;
         assert_eq!(rt; script.as_slice(), bytes.as_bytes(), "{most}");

@@ -1,5 +1,5 @@
 //! Tests of the program over readers and writers that no system's file is, through the public
-//! functions of `asm_tool`.
+//! functions of `asm_tool` and `asm_files`.
 #![tactic(auto)]
 
 #[cfg(test)]

@@ -1,6 +1,7 @@
 //! What the program shows over a reader and writers in memory.
-use asm_tool::folder::Disk;
-use asm_tool::output::{Through, buffered};
+use asm_files::folder::Disk;
+use asm_files::output::{Through, buffered};
+use asm_tool::fault::Fault;
 use asm_tool::status::{refusal, status};
 use std::io::{Read, Write};
 use std::rt::Files;
@@ -34,7 +35,7 @@ pub fn status_by<
     let mut err = Through::new(err);
     match buffered(rt.alloc(), out) {
         Ok(mut out) => status(rt, &Disk::new(rt), words, input, &mut out, &mut err),
-        Err(fault) => refusal(&fault, &mut err),
+        Err(error) => refusal(&Fault::from(error), &mut err),
     }
 }
 

@@ -1,0 +1,59 @@
+-- Free. No report has the status of a fault.
+--     of_report        the status of a report
+--     of_answer        of help or the version, too
+use Rattle.std.proofs.Common.{◌≡◌, ◌⊎◌, ℕ, List, Option, inl, inr, arith, subst, sym}
+use Rattle.clap.specs.Walk.{Text}
+use Rattle.asm_meaning.specs.Run.{AtExhausted, AtFault, AtLimit, End}
+use Rattle.asm_explore.specs.declared.exploration_result.Finding.{Finding}
+use Rattle.asm_explore.specs.declared.exploration_result.Finding.TheVariants as finding
+use Rattle.asm_random.specs.declared.random_result.RandomFinding.{RandomFinding}
+use Rattle.asm_random.specs.declared.random_result.RandomFinding.TheVariants as random
+use Rattle.asm_explore_all.specs.AllReport as all
+use Rattle.asm_explore_random.specs.RandomReport.{random_status}
+use Rattle.asm_explore_run.specs.RunReport.{IsRunStatus, status_of_end}
+use Rattle.asm_explore_report.specs.declared.report.Report.{Report}
+use Rattle.asm_explore_words.specs.declared.settings.Task.{Task}
+use Rattle.asm_explore_words.specs.declared.settings.Task.TheVariants as task
+use Rattle.asm_explore_tool.specs.Faults.{IsOfFault}
+use Rattle.asm_explore_tool.specs.Outputs.{IsAnswer, IsReportOf}
+
+apart : (status n : ℕ) → status ≡ n → (IsOfFault n → ⊥) → IsOfFault status → ⊥
+apart status n is not fault = not (subst IsOfFault is fault)
+
+of_finding : (found : Finding) → IsOfFault (all.status_of found) → ⊥
+of_finding finding.Closed f = omega (arith, f.0)
+of_finding (finding.SafeTo depth) f = omega (arith, f.0)
+of_finding (finding.BadStep bad) f = omega (arith, f.0)
+of_finding finding.WrongFirst f = omega (arith, f.0)
+of_finding (finding.Unwritten unwritten) f = omega (arith, f.0)
+of_finding (finding.TooManyStates depth) f = omega (arith, f.1)
+of_finding (finding.TooManyOutcomes depth crowd) f = omega (arith, f.1)
+of_finding (finding.NoMemory depth) f = omega (arith, f.1)
+
+of_random : (found : RandomFinding) → IsOfFault (random_status found) → ⊥
+of_random random.Nothing f = omega (arith, f.0)
+of_random (random.Bad number bad) f = omega (arith, f.0)
+of_random random.WrongFirst f = omega (arith, f.0)
+of_random (random.Unwritten unwritten) f = omega (arith, f.0)
+
+of_choices : (end : End) (status : ℕ) → IsRunStatus end status → IsOfFault status → ⊥
+of_choices AtLimit status (inl is) f = omega (arith, is, f.0)
+of_choices AtLimit status (inr is) f = omega (arith, is, f.1)
+of_choices (AtExhausted step q) status is f = omega (arith, is, f.0)
+of_choices (AtFault step U) status is f = omega (arith, is, f.0)
+
+of_clash : (end : End) → IsOfFault (status_of_end end) → ⊥
+of_clash AtLimit f = omega (arith, f.0)
+of_clash (AtExhausted step q) f = omega (arith, f.0)
+of_clash (AtFault step U) f = omega (arith, f.0)
+
+module _ (contents : Text → Option (List ℕ)) (input : Option (List ℕ)) where
+  pub of_report : (asked : Task) (report : Report) → IsReportOf contents input asked report → IsOfFault report.status → ⊥
+  of_report (task.All settings) report h = apart report.status _ h.reported.status (of_finding h.reported.answer.finding)
+  of_report (task.Random settings) report h = apart report.status _ h.reported.status (of_random h.reported.answer.finding)
+  of_report (task.Choices settings) report h = of_choices _ report.status h.reported.status
+  of_report (task.Clash settings) report h = apart report.status _ h.reported.status (of_clash _)
+
+  pub of_answer : (IsWritten : List ℕ → Type 0) (words : List Text) (status : ℕ) → IsAnswer contents input IsWritten words status → IsOfFault status → ⊥
+  of_answer IsWritten words status (inl output) = apart status output.report.status output.status_is (of_report output.task output.report output.reported)
+  of_answer IsWritten words status (inr help) = apart status 0 help.0 (λ f. omega (arith, f.0))

@@ -1,0 +1,56 @@
+-- Definition. Why the program doesn't write what words ask for.
+--     status_of fault             the status that the program ends with
+--     IsOfFault status            it is one of these
+--     IsOfReport fault            it may be why there is no report for words that are taken
+--     fault_of_report, fault_of_words, fault_of_no_words, fault_of_read
+--                                 the fault where there is no report, where words are refused or
+--                                 can't be had, and where the text from a source can't be
+use Rattle.std.specs.Prelude.{◌≤◌, ℕ, ⊤}
+use Rattle.asm_explore_words.specs.declared.fault.Fault.{Fault}
+use Rattle.asm_explore_words.specs.declared.fault.Fault.TheVariants as report
+use Rattle.asm_explore_words.specs.declared.fault.Source.{Source}
+use Rattle.asm_explore_words.specs.declared.settings.WordFault.{WordFault}
+use Rattle.asm_explore_words.specs.declared.settings.WordFault.TheVariants as word
+use Rattle.asm_files.specs.declared.fault.NoWords.{NoWords}
+use Rattle.asm_files.specs.declared.fault.NoWords.TheVariants as absent
+use Rattle.asm_files.specs.declared.fault.ReadFault.{ReadFault}
+use Rattle.asm_files.specs.declared.fault.ReadFault.TheVariants as unread
+use Rattle.asm_explore_tool.specs.declared.no_answer.NoAnswer.{NoAnswer}
+use Rattle.asm_explore_tool.specs.declared.no_answer.NoAnswer.TheVariants.{Words, NotText, Text, Memory, File, Write, Graph, Unconfirmed}
+
+abbrev pub status_of : NoAnswer → ℕ
+status_of (Text refused) = 2
+status_of Memory = 3
+status_of (File source) = 3
+status_of Write = 3
+status_of (Graph name) = 3
+status_of Unconfirmed = 3
+status_of (Words error) = 4
+status_of NotText = 4
+
+abbrev pub IsOfFault : ℕ → Type 0
+IsOfFault status = (2 ≤ status) × (status ≤ 4)
+
+abbrev pub IsOfReport : NoAnswer → Type 0
+IsOfReport (Words error) = ⊥
+IsOfReport NotText = ⊥
+IsOfReport Write = ⊥
+IsOfReport fault = ⊤
+
+abbrev pub fault_of_report : Fault → NoAnswer
+fault_of_report (report.Text refused) = Text refused
+fault_of_report report.Memory = Memory
+fault_of_report (report.Graph name) = Graph name
+fault_of_report report.Unconfirmed = Unconfirmed
+
+abbrev pub fault_of_words : WordFault → NoAnswer
+fault_of_words word.Memory = Memory
+fault_of_words (word.Words error) = Words error
+
+abbrev pub fault_of_no_words : NoWords → NoAnswer
+fault_of_no_words absent.Memory = Memory
+fault_of_no_words absent.NotText = NotText
+
+abbrev pub fault_of_read : Source → ReadFault → NoAnswer
+fault_of_read source unread.Memory = Memory
+fault_of_read source unread.File = File source

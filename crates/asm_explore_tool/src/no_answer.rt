@@ -1,0 +1,107 @@
+//! Why the program doesn't write what words ask for.
+ghost use Rattle.std.specs.Prelude.{◌≡◌};
+ghost use Rattle.asm_explore_tool.specs.Faults.{IsOfReport, fault_of_no_words, fault_of_read, fault_of_report, fault_of_words, status_of};
+ghost use Rattle.asm_explore_tool.specs.declared.no_answer.NoAnswer.TheVariants as no_answer;
+
+use asm_explore_words::fault::{Fault, RefusedText, Source};
+use asm_explore_words::settings::WordFault;
+use asm_files::fault::{NoWords, ReadFault};
+use clap::Error;
+use std::alloc::{AllocError, AllocFailed};
+
+/// Why what the words ask for isn't written.
+#[derive(Debug, Drop)]
+pub enum NoAnswer<'w> {
+    /// The words can't be understood.
+    Words(Error),
+    /// A word isn't text.
+    NotText,
+    /// The specification, the script or a condition is refused.
+    Text(RefusedText<'w>),
+    /// Memory ran out.
+    Memory,
+    /// A file can't be read.
+    File(Source<'w>),
+    /// The output failed.
+    Write,
+    /// The graph of states can't be written to the file of this name.
+    Graph(&'w str),
+    /// The run under the script that was found ends otherwise than it was found to.
+    Unconfirmed,
+}
+
+impl<'w> NoAnswer<'w> {
+    /// The program's status.
+    pub fn status(&self) -> u8
+        ensures { result ≡ status_of self.now }
+    {
+        match self {
+            NoAnswer::Text(_) => 2,
+            NoAnswer::Memory | NoAnswer::File(_) | NoAnswer::Write => 3,
+            NoAnswer::Graph(_) | NoAnswer::Unconfirmed => 3,
+            NoAnswer::Words(_) | NoAnswer::NotText => 4,
+        }
+    }
+
+    /// Where the text from this source can't be had.
+    pub(crate) fn of_read(source: Source<'w>, fault: ReadFault) -> NoAnswer<'w>
+        ensures fault { result ≡ fault_of_read source.entry fault }
+        ensures none { IsOfReport result }
+    {
+        match fault {
+            ReadFault::Memory => NoAnswer::Memory,
+            ReadFault::File => NoAnswer::File(source),
+        }
+    }
+}
+
+impl<'w> From<AllocError> for NoAnswer<'w> {
+    ghost from_gives = { λ _ fault. fault ≡ no_answer.Memory };
+
+    fn from(_error: AllocError) -> NoAnswer<'w> {
+        NoAnswer::Memory
+    }
+}
+
+impl<'w, T: Drop> From<AllocFailed<T>> for NoAnswer<'w> {
+    ghost from_gives = { λ _ fault. fault ≡ no_answer.Memory };
+
+    fn from(_error: AllocFailed<T>) -> NoAnswer<'w> {
+        NoAnswer::Memory
+    }
+}
+
+impl<'w> From<Fault<'w>> for NoAnswer<'w> {
+    ghost from_gives = { λ report fault. fault ≡ fault_of_report report };
+
+    fn from(fault: Fault<'w>) -> NoAnswer<'w> {
+        match fault {
+            Fault::Text(refused) => NoAnswer::Text(refused),
+            Fault::Memory => NoAnswer::Memory,
+            Fault::Graph(name) => NoAnswer::Graph(name),
+            Fault::Unconfirmed => NoAnswer::Unconfirmed,
+        }
+    }
+}
+
+impl<'w> From<WordFault> for NoAnswer<'w> {
+    ghost from_gives = { λ words fault. fault ≡ fault_of_words words };
+
+    fn from(fault: WordFault) -> NoAnswer<'w> {
+        match fault {
+            WordFault::Memory => NoAnswer::Memory,
+            WordFault::Words(error) => NoAnswer::Words(error),
+        }
+    }
+}
+
+impl<'w> From<NoWords> for NoAnswer<'w> {
+    ghost from_gives = { λ words fault. fault ≡ fault_of_no_words words };
+
+    fn from(fault: NoWords) -> NoAnswer<'w> {
+        match fault {
+            NoWords::Memory => NoAnswer::Memory,
+            NoWords::NotText => NoAnswer::NotText,
+        }
+    }
+}

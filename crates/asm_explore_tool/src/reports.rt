@@ -1,0 +1,137 @@
+//! The reports that words ask for.
+ghost use Rattle.std.specs.Prelude.{◌≡◌, false, IfOk, IfErr};
+ghost use Rattle.asm_explore_tool.specs.Faults.{IsOfReport};
+ghost use Rattle.asm_explore_tool.specs.Outputs.{IsReportOf, IsReportOfAll, IsReportOfRandom, IsReportOfRun};
+ghost use Rattle.asm_explore_run.specs.RunReport.{AreChoicesReported, IsClashReported};
+ghost use Rattle.asm_explore_words.specs.WordsSaid.{reads_input_twice, reads_task_twice};
+
+use crate::given_texts::{always_given, conditions, text};
+use crate::no_answer::NoAnswer;
+use crate::progress_lines::ProgressLines;
+use crate::run_texts::run_texts;
+use asm_explore::{Progress, Watch};
+use asm_explore_all::all_report::all_report;
+use asm_explore_all::files::NewFiles;
+use asm_explore_random::random_report::random_report;
+use asm_explore_report::report::Report;
+use asm_explore_run::choices_report::choices_report;
+use asm_explore_run::clash_report::clash_report;
+use asm_explore_words::fault::Source;
+use asm_explore_words::settings::{RandomSettings, RunSettings, Settings, Task};
+use asm_files::folder::Folder;
+use asm_random::RandomProgress;
+use asm_run::sink::Sink;
+use std::alloc::Global;
+use std::io::Read;
+use std::thread::Threads;
+use std::time::Clock;
+
+/// The report for a command with its settings.
+pub(crate) fn report<'w, R: Threads + Clock + Sync, F: Folder + NewFiles, I: Read + Drop, E: Sink>(
+    rt: &R,
+    folder: &F,
+    alloc: Global,
+    task: &Task<'w>,
+    input: I,
+    lines: &mut ProgressLines<'_, R, E>,
+) -> Result<Report, NoAnswer<'w>>
+    requires { reads_task_twice task.now ≡ false }
+    ensures report { IfOk result (IsReportOf (F.contents folder.now) (I.remaining input) task.now) }
+    ensures none { IfErr result IsOfReport }
+{
+    match task {
+        Task::All(settings) => {
+            lines.begin(settings.progress);
+            report_of_all(rt, folder, alloc, settings, input, lines)
+        }
+        Task::Random(settings) => {
+            lines.begin(settings.progress);
+            report_of_random(rt, folder, alloc, settings, input, lines)
+        }
+        Task::Choices(settings) => report_of_choices(rt, folder, alloc, settings, input),
+        Task::Clash(settings) => report_of_clash(rt, folder, alloc, settings, input),
+    }
+}
+
+/// The choices of the run that settings ask for.
+fn report_of_choices<'w, R: Threads + Sync, F: Folder, I: Read + Drop>(
+    rt: &R,
+    folder: &F,
+    alloc: Global,
+    settings: &RunSettings<'w>,
+    input: I,
+) -> Result<Report, NoAnswer<'w>>
+    requires { reads_input_twice settings.now ≡ false }
+    ensures report { IfOk result (IsReportOfRun (F.contents folder.now) (I.remaining input) AreChoicesReported settings.now) }
+    ensures none { IfErr result IsOfReport }
+{
+    let texts = run_texts(folder, alloc, settings, input)?;
+    let (text, script) = (texts.text.as_slice(), texts.script.as_slice());
+    let report = choices_report(rt, alloc, text, script, settings)?;
+    Ok(report)
+}
+
+/// The assignments by which the run ends that settings ask for.
+fn report_of_clash<'w, R: Threads + Sync, F: Folder, I: Read + Drop>(
+    rt: &R,
+    folder: &F,
+    alloc: Global,
+    settings: &RunSettings<'w>,
+    input: I,
+) -> Result<Report, NoAnswer<'w>>
+    requires { reads_input_twice settings.now ≡ false }
+    ensures report { IfOk result (IsReportOfRun (F.contents folder.now) (I.remaining input) IsClashReported settings.now) }
+    ensures none { IfErr result IsOfReport }
+{
+    let texts = run_texts(folder, alloc, settings, input)?;
+    let (text, script) = (texts.text.as_slice(), texts.script.as_slice());
+    let report = clash_report(rt, alloc, text, script, settings)?;
+    Ok(report)
+}
+
+/// The report for settings of `all`.
+fn report_of_all<
+    'w,
+    R: Threads + Sync,
+    F: Folder + NewFiles,
+    I: Read + Drop,
+    W: Watch<Progress>,
+>(
+    rt: &R,
+    folder: &F,
+    alloc: Global,
+    settings: &Settings<'w>,
+    input: I,
+    watch: &mut W,
+) -> Result<Report, NoAnswer<'w>>
+    ensures report { IfOk result (IsReportOfAll (F.contents folder.now) (I.remaining input) settings.now) }
+    ensures none { IfErr result IsOfReport }
+{
+    let spec = settings.spec;
+    let text = text(folder, alloc, Source::Specification(spec), spec, input)?;
+    let conditions = conditions(folder, alloc, settings)?;
+    let text = text.as_slice();
+    let report = all_report(rt, folder, alloc, text, &conditions, settings, watch)?;
+    Ok(report)
+}
+
+/// The report for settings of `random`.
+fn report_of_random<'w, R: Threads + Sync, F: Folder, I: Read + Drop, W: Watch<RandomProgress>>(
+    rt: &R,
+    folder: &F,
+    alloc: Global,
+    settings: &RandomSettings<'w>,
+    input: I,
+    watch: &mut W,
+) -> Result<Report, NoAnswer<'w>>
+    ensures report { IfOk result (IsReportOfRandom (F.contents folder.now) (I.remaining input) settings.now) }
+    ensures none { IfErr result IsOfReport }
+{
+    let spec = settings.spec;
+    let (words, names) = (settings.always.as_slice(), settings.always_files.as_slice());
+    let text = text(folder, alloc, Source::Specification(spec), spec, input)?;
+    let conditions = always_given(folder, alloc, words, names)?;
+    let (text, conditions) = (text.as_slice(), conditions.as_slice());
+    let report = random_report(rt, alloc, text, conditions, settings, watch)?;
+    Ok(report)
+}

@@ -1,0 +1,68 @@
+-- Free. The definitions at words that are written out.
+use Rattle.std.proofs.Common.{◌≡◌, List, [], ◌∷◌, codes, refl, inl, inr}
+use Rattle.clap.specs.Walk.{Text}
+use Rattle.clap.specs.declared.error.kind.ErrorKind.TheVariants.{ArgumentConflict, InvalidSubcommand, MissingRequiredArgument, MissingSubcommand, UnknownArgument, ValueValidation}
+use Rattle.clap.proofs.OnLiterals.{clap_on_literals}
+use Rattle.asm_explore_words.specs.CommandLine.{command, commands, random_command, run_command}
+use Rattle.asm_explore_words.specs.WordsSaid.{AskForHelp, task_refusals}
+
+abbrev one : List Text
+one = codes "x.asm" ∷ []
+
+-- ---- what is taken
+
+all_is_taken : task_refusals (codes "all" ∷ codes "--steps" ∷ codes "5" ∷ one) ≡ []
+unfolding command clap_on_literals
+all_is_taken = refl
+
+random_is_taken : task_refusals (codes "random" ∷ codes "--seed=7" ∷ one) ≡ []
+unfolding random_command clap_on_literals
+random_is_taken = refl
+
+choices_are_taken : task_refusals (codes "choices" ∷ codes "-" ∷ codes "--script" ∷ codes "s" ∷ []) ≡ []
+unfolding run_command clap_on_literals
+choices_are_taken = refl
+
+-- ---- what is refused
+
+no_words : task_refusals [] ≡ MissingSubcommand ∷ []
+unfolding commands command random_command run_command clap_on_literals
+no_words = refl
+
+no_command : task_refusals one ≡ UnknownArgument ∷ InvalidSubcommand ∷ []
+unfolding commands command random_command run_command clap_on_literals
+no_command = refl
+
+misspelt_option : task_refusals (codes "all" ∷ codes "--stepz" ∷ codes "5" ∷ one) ≡ UnknownArgument ∷ []
+unfolding command clap_on_literals
+misspelt_option = refl
+
+too_many_steps : task_refusals (codes "all" ∷ codes "--steps" ∷ codes "1000001" ∷ one) ≡ ValueValidation ∷ []
+unfolding command clap_on_literals
+too_many_steps = refl
+
+no_text : task_refusals (codes "clash" ∷ []) ≡ MissingRequiredArgument ∷ []
+unfolding run_command clap_on_literals
+no_text = refl
+
+both_are_input : task_refusals (codes "clash" ∷ codes "-" ∷ codes "--script" ∷ codes "-" ∷ []) ≡ ArgumentConflict ∷ []
+unfolding run_command clap_on_literals
+both_are_input = refl
+
+-- ---- what is asked for
+
+help : AskForHelp (task_refusals (codes "--help" ∷ []))
+unfolding commands command random_command run_command clap_on_literals
+help = inl (inl refl)
+
+help_of_all : AskForHelp (task_refusals (codes "all" ∷ codes "-h" ∷ []))
+unfolding command clap_on_literals
+help_of_all = inl (inl refl)
+
+version : AskForHelp (task_refusals (codes "--version" ∷ []))
+unfolding commands command random_command run_command clap_on_literals
+version = inr (inl refl)
+
+help_as_a_command : AskForHelp (task_refusals (codes "help" ∷ []))
+unfolding commands command random_command run_command clap_on_literals
+help_as_a_command = inl (inl refl)

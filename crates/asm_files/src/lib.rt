@@ -1,0 +1,7 @@
+//! What comes in and goes out: words, files by their names, readers, and an output behind a buffer.
+#![tactic(auto)]
+
+pub mod fault;
+pub mod folder;
+pub mod input;
+pub mod output;
