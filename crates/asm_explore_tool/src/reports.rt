@@ -90,13 +90,7 @@ fn report_of_clash<'w, R: Threads + Sync, F: Folder, I: Read + Drop>(
 }
 
 /// The report for settings of `all`.
-fn report_of_all<
-    'w,
-    R: Threads + Sync,
-    F: Folder + NewFiles,
-    I: Read + Drop,
-    W: Watch<Progress>,
->(
+fn report_of_all<'w, R: Threads + Sync, F: Folder + NewFiles, I: Read + Drop, W: Watch<Progress>>(
     rt: &R,
     folder: &F,
     alloc: Global,

@@ -23,7 +23,15 @@ fn locations_are_shown_again(rt: HostRuntime) -> Result<(), Fail> {
     let limits = Limits { steps: 9, ..LIMITS };
     let mut out = Through::new(Vec::new(rt.alloc()));
     let answer = run(&rt, rt.alloc(), SHOWN, b"", &limits, &mut out);
-    assert!(rt; matches!(answer, Ok(End::Outside { step: 3, function: 1 })));
+    assert!(rt;
+        matches!(
+            answer,
+            Ok(End::Outside {
+                step: 3,
+                function: 1
+            })
+        )
+    );
     assert!(rt; out.into_inner().as_slice() == TRACE);
     Ok(())
 }

@@ -19,4 +19,4 @@ returns c =
     let shows : shown c.new-view.result ≡ state_of shape a.state.now =
     nothing_over signature shape c.new-nothing.result a.state.now (shown c.new-view.result) same
     (c.new-nothing.ensures.empty signature c.count.ensures.sound c.count.ensures.count) (λ U stands consistent. c.new-view.ensures.fired U stands consistent) in
-    c.value.ensures ∙ (c.in_ok-word.ensures ∙ ap (λ A. value (program checked) A nothing_bound (plain_term (term_of a.term.now))) shows)
+    c.in_ok-value.ensures ∙ ap (λ A. value (program checked) A nothing_bound (plain_term (term_of a.term.now))) shows

@@ -19,12 +19,21 @@ returns-in-Ok-clause-explained g c =
     let report = c.in_ok-report-in-Ok.report in
     let old = g.O.Sink.bytes c.args.out.now in
     let new = g.O.Sink.bytes c.written.new.out in
-    inl (c.in-Ok.ensures.taken, (c.in-Err.ensures.failed refl, (report.status, record {
-      taken = c.in-Ok.ensures.taken;
-      task = c.in-Ok.task;
-      said = c.in-Ok.ensures.said;
-      report = report;
-      reported = c.in_ok-report-in-Ok.ensures.report;
-      status_is = refl;
-      written = subst (AppendsUpTo old new) c.as_slice.ensures.value c.in-Err.ensures.begun;
-    })))
+    inl (
+      c.in-Ok.ensures.taken,
+      (
+        c.in-Err.ensures.failed refl,
+        (
+          report.status,
+          record {
+            taken = c.in-Ok.ensures.taken;
+            task = c.in-Ok.task;
+            said = c.in-Ok.ensures.said;
+            report = report;
+            reported = c.in_ok-report-in-Ok.ensures.report;
+            status_is = refl;
+            written = subst (AppendsUpTo old new) c.as_slice.ensures.value c.in-Err.ensures.begun;
+          },
+        ),
+      ),
+    )
