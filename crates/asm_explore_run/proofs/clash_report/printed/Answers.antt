@@ -7,8 +7,8 @@ use Rattle.asm_explore_run.specs.ClashText.{IsClashText, greatest_shown}
 use Rattle.asm_explore_run.specs.RunReport.{assignments_in}
 use Rattle.asm_explore_run.proofs.clash_report.printed.Goals as goal
 
-pub clash_text-text-requires : goal.clash_text-text-requires
-clash_text-text-requires c = ap length c.assignments-found.ensures ∙ c.requires ∙ ap (min greatest_shown) (sym c.count_of-count.ensures)
+pub clash_text-requires : goal.clash_text-requires
+clash_text-requires c = ap length c.assignments-found.ensures ∙ c.requires ∙ ap (min greatest_shown) (sym c.count_of-count.ensures)
 
 pub returns : goal.returns
 returns c = λ e is.
