@@ -8,7 +8,7 @@ use Rattle.asm_explore_run.proofs.RunStatuses.{clash_told, found_of_count}
 use Rattle.asm_explore_run.proofs.clash_report.report_of.Goals as goal
 
 pub printed-requires : goal.printed-requires
-printed-requires g c κs inside =
+printed-requires g c =
     let tree = spec_of c.args.checked.now.spec in
     let settings = c.args.settings.now in
     let script = c.in_ok-clash.ensures.0 in
