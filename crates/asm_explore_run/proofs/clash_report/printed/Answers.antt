@@ -1,4 +1,4 @@
-use Rattle.std.proofs.Common.{◌≡◌, ◌∙◌, List, length, min, ap, sym, subst}
+use Rattle.std.proofs.Common.{◌∙◌, List, length, min, ap, sym, subst}
 use Rattle.asm_syntax.specs.code.Views.{spec_of}
 use Rattle.asm_run.specs.Written.{names_in}
 use Rattle.asm_clash.specs.declared.assignment.Assignment.{Assignment}
