@@ -6,7 +6,7 @@
 --     lines_more    a line after those of assignments
 --     as_many       there are as many lines as assignments
 --     lines_long, too_many     each comment has 15 bytes at least, so that many don't fit
-use Rattle.std.proofs.Common.{◌≡◌, ◌∙◌, ◌+◌, ◌*◌, ◌<◌, ◌≤◌, ℕ, zero, suc, Option, None, Some, get_or, append_assoc, List, [], ◌∷◌, ◌++◌, length, map, codes, inl, inr, refl, sym, ap, subst, append-nil, length-append, arith}
+use Rattle.std.proofs.Common.{◌≡◌, ◌∙◌, ◌*◌, ◌<◌, ◌≤◌, ℕ, zero, suc, Option, None, Some, get_or, append_assoc, List, [], ◌∷◌, ◌++◌, length, codes, inl, inr, refl, sym, ap, append-nil, length-append, arith}
 use Rattle.std.specs.Prelude.{◌⊎◌, slice_get}
 use Rattle.asm_reader.specs.ScriptText.{max_script}
 use Rattle.std.proofs.lemmas.Grind.{flat_map-append}
@@ -16,7 +16,7 @@ use Rattle.asm_run.specs.Trace.{TraceNames, path_text, value_text}
 use Rattle.asm_run.specs.declared.end.End.{End}
 use Rattle.asm_clash.specs.declared.assignment.Assignment.{Assignment}
 use Rattle.asm_explore_report.specs.Comments.{comment, comments, in_one_line, shown}
-use Rattle.asm_explore_run.specs.ClashText.{AreLinesOf, IsLineOf, assignment_text, bound_text, greatest_shown, located}
+use Rattle.asm_explore_run.specs.ClashText.{AreLinesOf, IsLineOf, bound_text, greatest_shown, located}
 
 pub with_rest : (first : List ℕ) (shown rest : List (List ℕ)) → comments (first ∷ shown) ++ comments rest ≡ comments (first ∷ (shown ++ rest))
 with_rest first shown rest = sym (flat_map-append comment (first ∷ shown) rest)

@@ -1,4 +1,4 @@
-use Rattle.std.proofs.Common.{◌≡◌, ◌++◌, ◌≤◌, ℕ, List, Option, length, min}
+use Rattle.std.proofs.Common.{◌≡◌, ◌++◌, ℕ, List, Option, length}
 use Rattle.asm_syntax.specs.code.Views.{spec_of}
 use Rattle.asm_run.specs.Written.{names_in}
 use Rattle.asm_explore_run.specs.ClashText.{bound_text}

@@ -1,4 +1,4 @@
-use Rattle.std.proofs.Common.{◌≡◌, ◌∙◌, List, length, min, ap, sym, subst}
+use Rattle.std.proofs.Common.{◌∙◌, List, length, min, ap, sym, subst}
 use Rattle.asm_syntax.specs.code.Views.{spec_of}
 use Rattle.asm_run.specs.Written.{names_in}
 use Rattle.asm_clash.specs.declared.assignment.Assignment.{Assignment}
@@ -7,8 +7,8 @@ use Rattle.asm_explore_run.specs.ClashText.{IsClashText, greatest_shown}
 use Rattle.asm_explore_run.specs.RunReport.{assignments_in}
 use Rattle.asm_explore_run.proofs.clash_report.printed.Goals as goal
 
-pub clash_text-text-requires : goal.clash_text-text-requires
-clash_text-text-requires c = ap length c.assignments-found.ensures ∙ c.requires ∙ ap (min greatest_shown) (sym c.count_of-count.ensures)
+pub clash_text-requires : goal.clash_text-requires
+clash_text-requires c = ap length c.assignments-found.ensures ∙ c.requires ∙ ap (min greatest_shown) (sym c.count_of-count.ensures)
 
 pub returns : goal.returns
 returns c = λ e is.

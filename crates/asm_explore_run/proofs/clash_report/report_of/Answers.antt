@@ -1,4 +1,4 @@
-use Rattle.std.proofs.Common.{◌≡◌, ◌∙◌, sym, subst}
+use Rattle.std.proofs.Common.{◌≡◌, ◌∙◌, subst}
 use Rattle.asm_reader.specs.ScriptLines.{Script}
 use Rattle.asm_syntax.specs.SourceTree.{Spec}
 use Rattle.asm_syntax.specs.code.Views.{spec_of}
@@ -7,8 +7,8 @@ use Rattle.asm_explore_run.specs.ClashText.{greatest_shown}
 use Rattle.asm_explore_run.proofs.RunStatuses.{clash_told, found_of_count}
 use Rattle.asm_explore_run.proofs.clash_report.report_of.Goals as goal
 
-pub printed-text-requires : goal.printed-text-requires
-printed-text-requires g c κs inside =
+pub printed-requires : goal.printed-requires
+printed-requires g c =
     let tree = spec_of c.args.checked.now.spec in
     let settings = c.args.settings.now in
     let script = c.in_ok-clash.ensures.0 in
