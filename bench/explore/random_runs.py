@@ -14,8 +14,13 @@ from one_run import shown_path, within, words_of
 # So many steps are made for shortening a run.
 MOST_STEPS = 10_000_000
 
+# So many scripts of a step are tried, to see whether it changes nothing.
+MOST_SCRIPTS = 100_000
+
 # So many bytes of a condition are shown.
 SHOWN = 200
+
+DEADLOCK = "deadlock"
 
 
 class Source(NamedTuple):
@@ -47,14 +52,22 @@ class Ends(NamedTuple):
 
 
 class Wrong(NamedTuple):
-    """The step in which a run goes wrong, and words for the fault."""
+    """The step in which a run goes wrong, and words for the fault. A deadlock is the state that the step begins in."""
 
     step: int
     fault: str
 
+    def shown_after(self):
+        """By so many steps the fault is seen."""
+        return self.step - (self.fault == DEADLOCK)
+
     def said(self):
-        place = "after" if self.fault.startswith("condition") else "in"
-        return f"fault {place} step {self.step}: {self.fault}"
+        place = "after" if self.fault == DEADLOCK or self.fault.startswith("condition") else "in"
+        return f"fault {place} step {self.shown_after()}: {self.fault}"
+
+    def is_like(self, other):
+        """Whether the one is a deadlock if the other is, and only then."""
+        return (self.fault == DEADLOCK) == (other.fault == DEADLOCK)
 
 
 class Drawn(NamedTuple):
@@ -79,12 +92,13 @@ class Picking(model.Step):
 
 
 class Machine:
-    """The runs of a specification, and what is to be true in each state."""
+    """The runs of a specification, what is to be true in each state, and what in each that the step leaves as it is, whatever is chosen."""
 
-    def __init__(self, text, turns=1000, always=()):
+    def __init__(self, text, turns=1000, always=(), when_quiet=None):
         self.specification, self.turns = reader.specification_of(text), turns
         self.places, self.scale = list(self.specification.locations()), model.Scale(self.specification)
         self.always = [reader.term_of(condition) for condition in always]
+        self.when_quiet, self.dead = when_quiet and reader.term_of(when_quiet), {}
         # The states that were reached, the number of each, what isn't true in it, and the tree of the step from it.
         self.states, self.numbers, self.broken, self.trees = [], {}, [], {}
         self.reach(self.specification.initial())
@@ -104,11 +118,24 @@ class Machine:
         return next((f"condition {number} is {value}" for number, value in enumerate(values, 1) if value != "true"), None)
 
     def ends(self, state, result):
-        """What a step from a state comes to that yields this."""
+        """What a step from the state with this number comes to that yields this."""
         if wrong := words_of(self.places, self.scale, result):
             return Ends(wrong[0], None)
-        after = self.reach(model.fired(state, result[1]))
-        return Ends(self.broken[after], after)
+        after = self.reach(model.fired(self.states[state], result[1]))
+        stuck = DEADLOCK if after == state and self.is_deadlock(state) else None
+        return Ends(self.broken[after] or stuck, after)
+
+    def is_deadlock(self, number):
+        """Whether the step from the state with this number changes nothing, whatever is chosen, and a run may not stay in it."""
+        if number not in self.dead:
+            self.dead[number] = self.when_quiet is not None and self.is_stuck(self.states[number])
+        return self.dead[number]
+
+    def is_stuck(self, state):
+        if model.Step(self.specification, self.turns, []).term(self.when_quiet, {}, state) == "true":
+            return False
+        results = model.under_each_script(self.specification, self.turns, state, MOST_SCRIPTS)
+        return all(not model.fault(result) and model.fired(state, result[1]) == state for result, _ in results)
 
     def step(self, state, pick):
         """The path and the number of each choose that the step from the state with this number asks, and what it comes to."""
@@ -122,7 +149,7 @@ class Machine:
     def evaluated(self, state, pick):
         """The same, and puts it into the tree."""
         made = Picking(self.specification, self.turns, pick)
-        ends = self.ends(self.states[state], made.yields(self.states[state]))
+        ends = self.ends(state, made.yields(self.states[state]))
         behind, number = self.trees, state
         for path, picked, candidates in made.asked:
             behind, number = behind.setdefault(number, Asked(path, candidates)).behind, picked
@@ -187,14 +214,15 @@ class Short:
         return self.wrong.step, sum(map(len, self.draft[: self.wrong.step]))
 
     def attempt(self, without, *what):
-        """Leaves something out, if the run still goes wrong, and in no later step."""
+        """Leaves something out, if the run still goes wrong, and in no later step: by a deadlock if it did, and else by another fault."""
         steps = self.wrong.step
         if self.left < steps:
             self.left = 0
             return
         self.left -= steps
         draft = without(self.draft[:steps], *what)
-        if wrong := self.machine.wrong_under(draft, min(len(draft), steps)):
+        wrong = self.machine.wrong_under(draft, min(len(draft), steps))
+        if wrong and wrong.is_like(self.wrong):
             self.draft, self.wrong = draft, wrong
 
     def once(self):
@@ -226,6 +254,7 @@ class Question(NamedTuple):
     steps: int = 1000
     turns: int = 1000
     always: tuple = ()
+    when_quiet: Optional[str] = None
     runs: int = 1000
     seed: int = 0
 
@@ -258,13 +287,19 @@ def script_of(short):
     for step, numbers in enumerate(short.draft[: short.wrong.step], 1):
         yield from (f"{step} {shown_path(path)} {number}" for path, number in sorted(numbers.items()))
 
+def shown(condition):
+    return condition if len(condition) <= SHOWN else f"{condition[:SHOWN]} .."
+
+
 
 def facts(question, found, first):
     """What stands in the comments of an answer, but for the call of asm. The first of them is given."""
     yield first
     for number, condition in enumerate(question.always, 1):
-        yield f"condition {number}: " + (condition if len(condition) <= SHOWN else f"{condition[:SHOWN]} ..")
-    looked_for = [f"condition {number}" for number in range(1, len(question.always) + 1)]
+        yield f"condition {number}: {shown(condition)}"
+    if question.when_quiet is not None:
+        yield f"deadlock unless: {shown(question.when_quiet)}"
+    looked_for = [f"condition {number}" for number in range(1, len(question.always) + 1)] + [DEADLOCK] * (question.when_quiet is not None)
     yield f"looked for: {', '.join(['clash', 'outside', 'exhausted', *looked_for])}"
     yield f"seed {question.seed}"
     yield f"runs {found.runs}"
@@ -302,6 +337,6 @@ def answer_to(machine, question, spec="-"):
 def answer_of(question, found, wrong, lines, spec):
     """What is answered for a run that goes wrong, with the lines of its script."""
     turns = f" --turns {question.turns}" if question.turns != 1000 else ""
-    call = f"asm --steps {wrong.step} --script THIS{turns}" + (f" {spec}" if spec != "-" else "")
+    call = f"asm --steps {wrong.shown_after()} --script THIS{turns}" + (f" {spec}" if spec != "-" else "")
     comments = [*facts(question, found, wrong.said()), call]
     return Answer([one.replace("\n", " ") for one in comments], lines, found)

@@ -1,6 +1,8 @@
 pub mod Elements
+pub mod FullFindings
 pub mod LookedAhead
 pub mod SearchEnds
+pub mod SettledEnds
 pub mod CodeLists
 pub mod CodeRules
 pub mod Specifications

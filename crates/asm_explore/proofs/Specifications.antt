@@ -5,7 +5,7 @@
 --     refused_listed      a refusal of the main rule's outcomes is one of the step's
 --     same_rule_result    what a result says of some conditions it says of others that are the
 --                         same, and what it says of too many outcomes is said otherwise
-use Rattle.std.proofs.Common.{◌≡◌, ℕ, Bool, List, [], refl, ap, subst, ◌∙◌, Vec, Global, sym}
+use Rattle.std.proofs.Common.{◌≡◌, ℕ, Bool, List, [], inl, inr, refl, ap, subst, ◌∙◌, Vec, Global, sym}
 use Rattle.asm_state.specs.Location.{State}
 use Rattle.asm_state.specs.Signature.{Shape, state_of}
 use Rattle.asm_state.specs.Updates.{UpdateSet, IsConsistent, none, fire}
@@ -14,16 +14,17 @@ use Rattle.asm_state.proofs.UpdateLemmas.Summaries.{fire_laws}
 use Rattle.asm_updates.specs.code.SummaryRanges.{SummaryRanges}
 use Rattle.asm_updates.specs.code.Stands.{Stands}
 use Rattle.asm_meaning.specs.Program.{Program, nothing_bound}
-use Rattle.asm_meaning.specs.Run.{Specification}
+use Rattle.asm_meaning.specs.Run.{Specification, run}
 use Rattle.asm_meaning.specs.Value.{Reading}
 use Rattle.asm_resolve.specs.code.ResolvedTerms.{Agrees}
-use Rattle.asm_explore.specs.ExplorationResults.{Claims, IsExplorationResult}
+use Rattle.asm_explore.specs.ExplorationResults.{Claims, IsAliveOrCrowded, IsEarliest, IsExplorationResult, IsSafeIf}
+use Rattle.asm_explore.specs.declared.fault.Fault.{Fault}
 use Rattle.asm_explore.specs.declared.exploration_result.ExplorationResult.{ExplorationResult}
 use Rattle.asm_explore.specs.declared.exploration_result.Finding.{Finding}
 use Rattle.asm_explore.specs.declared.exploration_result.Finding.TheVariants as finding
 use Rattle.asm_explore.specs.declared.outcomes.outcomes_error.RuleOverLimit.{RuleOverLimit}
 use Rattle.asm_explore.proofs.OutcomeLemmas.SequenceOutcomes.{none_consistent}
-use Rattle.std.specs.Prelude.{Result as Returned, Ok, Err}
+use Rattle.std.specs.Prelude.{Option, Some, None, Result as Returned, Ok, Err}
 use Rattle.std.specs.Result.{IsErrAnd}
 use Rattle.asm_explore.specs.declared.outcomes.listed_outcome.Choice.{Choice}
 use Rattle.asm_explore.specs.declared.outcomes.listed_outcome.ListedOutcome.{ListedOutcome}
@@ -56,33 +57,47 @@ refused_listed shape specification turns makes limit A (Err again) e same m is r
 }
 
 module _ (specification : Specification) (turns : ℕ) (crowds throngs : State → RuleOverLimit → Type 0) (f : (A : State) (crowd : RuleOverLimit) → crowds A crowd → throngs A crowd) (steps limit : ℕ) where
-  claims_more : (right rests within : State → Bool) (states : ℕ) (finding : Finding)
+  safe_more : (right rests within : State → Bool) (safe : Option ℕ) → IsSafeIf specification turns crowds steps limit right rests within safe → IsSafeIf specification turns throngs steps limit right rests within safe
+  safe_more right rests within None h = h
+  safe_more right rests within (Some depth) h = h
+
+  earliest_more : (right rests within : State → Bool) (kind : Fault) (step : ℕ) → IsEarliest specification turns crowds steps limit right rests within kind step → IsEarliest specification turns throngs steps limit right rests within kind step
+  earliest_more right rests within kind step h = record {
+    limited = h.limited;
+    before = h.before;
+    next = h.next;
+    fine = h.fine;
+    alive = h.alive;
+    outranked = λ other script k less stays. by_alive right rests within (run specification turns script k).last (h.outranked other script k less stays);
+  }
+    where
+      by_alive : (right rests within : State → Bool) (A : State) → IsAliveOrCrowded specification turns crowds steps limit right rests within A → IsAliveOrCrowded specification turns throngs steps limit right rests within A
+      by_alive right rests within A (inl alive) = inl alive
+      by_alive right rests within A (inr crowded) = inr (crowded.0, f A crowded.0 crowded.1)
+
+  claims_more : (right rests within : State → Bool) (states : List State) (finding : Finding)
       → Claims specification turns crowds steps limit right rests within states finding → Claims specification turns throngs steps limit right rests within states finding
   claims_more right rests within states finding.Closed h = h
   claims_more right rests within states (finding.SafeTo depth) h = h
   claims_more right rests within states (finding.BadStep bad) h = record {
-    script = h.script;
+    lines = h.lines;
+    text = h.text;
     spelled = h.spelled;
     wrong = h.wrong;
     stays = h.stays;
-    limited = h.limited;
-    before = h.before;
-    next = h.next;
-    shortest = h.shortest;
+    earliest = earliest_more right rests within bad.fault bad.step h.earliest;
   }
   claims_more right rests within states finding.WrongFirst h = h
-  claims_more right rests within states (finding.TooManyStates depth) h = h
-  claims_more right rests within states (finding.TooManyOutcomes depth crowd) h = (h.0, (h.1.0, h.1.1, f h.1.0 crowd h.1.2))
-  claims_more right rests within states (finding.NoMemory depth) h = h
+  claims_more right rests within states (finding.TooManyStates safe) h = (h.0, safe_more right rests within safe h.1, h.2, h.3)
+  claims_more right rests within states finding.StatesRepeated h = h
+  claims_more right rests within states (finding.TooManyOutcomes safe crowd) h = (safe_more right rests within safe h.0, (h.1.0, h.1.1, f h.1.0 crowd h.1.2))
+  claims_more right rests within states (finding.NoMemory safe) h = safe_more right rests within safe h
   claims_more right rests within states (finding.Unwritten unwritten) h = record {
     lines = h.lines;
     wrong = h.wrong;
     stays = h.stays;
-    limited = h.limited;
     long = h.long;
-    before = h.before;
-    next = h.next;
-    shortest = h.shortest;
+    earliest = earliest_more right rests within unwritten.fault unwritten.step h.earliest;
   }
 
   pub same_rule_result : (right rests within also rested inside : State → Bool) (answer : ExplorationResult)
@@ -92,10 +107,12 @@ module _ (specification : Specification) (turns : ℕ) (crowds throngs : State �
       subst (λ (all : (State → Bool) × (State → Bool) × (State → Bool)). IsExplorationResult specification turns throngs steps limit all.0 all.1 all.2 answer)
       (λ i. ((λ A. same A i), (λ A. alike A i), (λ A. equal A i)))
       (record {
-        found = claims_more right rests within answer.states answer.finding h.found;
+        found = claims_more right rests within h.reached answer.finding h.found;
         reached = h.reached;
         count = h.count;
         reach = h.reach;
-        lively = h.lively;
+        looked = h.looked;
+        quiet = h.quiet;
+        through = h.through;
         rest = h.rest;
       })

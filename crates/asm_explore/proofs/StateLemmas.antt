@@ -2,6 +2,9 @@
 pub mod AddedNodes
 pub mod Batches
 pub mod Bytes
+pub mod DifferentStates
+pub mod LastStates
+pub mod LookedStates
 pub mod MoreNodes
 pub mod PackedNodes
 pub mod QuietNodes

@@ -1,4 +1,5 @@
 pub mod Search
+pub mod StateLists
 pub mod ExplorationResults
 pub mod Conditions
 pub mod ChoicesMadeLaws

@@ -10,10 +10,13 @@ pub mod ChoicePaths
 pub mod ChoicesMade
 pub mod ChoicesMadeSoFar
 pub mod ChooseNothing
+pub mod Deadlocks
+pub mod DifferentStates
 pub mod ExploredRules
 pub mod FaultMarks
 pub mod ListElements
 pub mod ListedRules
+pub mod LookedStates
 pub mod MainRule
 pub mod OutcomeLists
 pub mod OverLimit
@@ -23,6 +26,7 @@ pub mod ReachedStates
 pub mod ResolvedConditions
 pub mod ScriptTo
 pub mod SearchEnds
+pub mod SettledEnds
 pub mod Sequences
 pub mod StepLeads
 pub mod StepOutcomes

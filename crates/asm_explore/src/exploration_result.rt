@@ -7,7 +7,8 @@ use crate::outcomes::outcomes_error::RuleOverLimit;
 pub struct BadRun {
     /// The text of a script.
     pub script: String,
-    /// The run under this script goes wrong in this step, and no run goes wrong before.
+    /// The run under this script goes wrong in this step, and no run goes wrong before. A deadlock is
+    /// the state that the step begins in.
     pub step: u64,
     pub fault: Fault,
 }
@@ -36,19 +37,26 @@ pub struct QuietRun {
 pub enum Finding {
     /// No run goes wrong, of however many steps.
     Closed,
-    /// No run of at most that many steps goes wrong.
+    /// No run of at most that many steps goes wrong, and none of the states that it comes to is a
+    /// deadlock.
     SafeTo(u32),
     /// A run goes wrong.
     BadStep(BadRun),
     /// The first state isn't right.
     WrongFirst,
-    /// There are more states than the limit says; no run of at most that many steps goes wrong.
-    TooManyStates(u32),
-    /// There are more outcomes of a step than the limit says, of the rule at a path; no run of at
-    /// most `depth` steps goes wrong.
-    TooManyOutcomes { depth: u32, crowd: RuleOverLimit },
-    /// Memory ran out; no run of at most that many steps goes wrong.
-    NoMemory(u32),
+    /// There are more states than the limit says. It is safe up to that many steps, if any.
+    TooManyStates(Option<u32>),
+    /// There seemed to be more states than the limit says, but one was reached twice: the search
+    /// didn't find it again, which is an error of this program.
+    StatesRepeated,
+    /// There are more outcomes of a step than the limit says, of the rule at a path. It is safe up to
+    /// that many steps, if any.
+    TooManyOutcomes {
+        safe: Option<u32>,
+        crowd: RuleOverLimit,
+    },
+    /// Memory ran out. It is safe up to that many steps, if any.
+    NoMemory(Option<u32>),
     /// A run goes wrong, but its script can't be written.
     Unwritten(Unwritten),
 }

@@ -1,15 +1,17 @@
 //! The exploration of a machine, and its result.
-ghost use Rattle.std.specs.Prelude.{◌≡◌, ◌≢◌, ◌∷◌, ◌<◌, ◌≤◌, ℕ, Some, true, IfOk, IfSome, length, slice_get};
+ghost use Rattle.std.specs.Prelude.{◌≡◌, ◌≢◌, ◌∷◌, ◌<◌, ◌≤◌, ℕ, List, suc, Some, true, IfOk, IfSome, length, slice_get};
 ghost use Rattle.asm_state.specs.code.Contents.{IsStateOf};
+ghost use Rattle.asm_state.specs.Location.{State as Contents};
 ghost use Rattle.asm_state.specs.Signature.{count_of, state_of};
-ghost use Rattle.asm_explore.specs.declared.exploration_result.Finding.TheVariants as finding;
-ghost use Rattle.asm_explore.specs.ExplorationResults.{Claims, IsExplorationResult, IsQuietRun};
+ghost use Rattle.asm_explore.specs.declared.fault.Fault.TheVariants.{Deadlock};
+ghost use Rattle.asm_explore.specs.ExplorationResults.{Claims, IsAliveOrCrowded, IsExplorationResult, IsLookedThrough, IsQuietRun};
 ghost use Rattle.asm_explore.specs.code.PackedNodes.{Node};
 ghost use Rattle.asm_explore.specs.code.OutcomeLists.{Each};
 ghost use Rattle.asm_explore.specs.code.QuietStates.{IsFirstQuiet};
 ghost use Rattle.asm_explore.specs.code.ReachedStates.{AreInside, GoesWrongSo, IsGood, IsLinked, Rises};
 ghost use Rattle.asm_explore.specs.code.StepOutcomes.{IsOverLimitOf};
 ghost use Rattle.asm_explore.specs.Search.{HoldsBefore, IsDeadlock, IsSafeUpTo};
+ghost use Rattle.asm_explore.specs.StateLists.{IsAmongFirst};
 
 use crate::exploration_result::{BadRun, ExplorationResult, Finding, QuietRun, Unwritten};
 use crate::machine::Machine;
@@ -19,8 +21,10 @@ use crate::scripts::script_to::script_to;
 use crate::search::explore;
 use crate::search_error::SearchError;
 use crate::search_result::{BadStep, SearchEnd, SearchResult};
+use crate::settled::before;
 use crate::states::nodes::Nodes;
 use crate::states::trail::trail_to;
+use crate::too_many_states::too_many_states;
 use asm_state::state::State;
 use asm_syntax::InputError;
 use std::alloc::{AllocError, Global};
@@ -50,17 +54,20 @@ fn bad_run<M: Machine>(
     requires linked { Each (IsLinked (M.shape machine.now) (M.specification machine.now) (M.turns machine.now) nodes.now) nodes.now }
     requires inside { AreInside (M.shape machine.now) (M.specification machine.now) (M.turns machine.now) (M.within machine.now) nodes.now }
     requires wrong { GoesWrongSo (M.specification machine.now) (M.turns machine.now) (M.right machine.now) (M.rests machine.now) (M.within machine.now) (M.shape machine.now) nodes.now bad }
-    requires deep { (n : Node) → slice_get nodes.now bad.from ≡ Some n → (n.depth ≡ whole) × (n.depth < steps) }
+    requires low { whole ≤ steps }
+    requires deep { (n : Node) → slice_get nodes.now bad.from ≡ Some n → (n.depth ≡ whole) × (bad.fault ≢ Deadlock → n.depth < steps) }
     requires safe { IsSafeUpTo (M.specification machine.now) (M.turns machine.now) (M.within machine.now) (λ A. (M.right machine.now) A ≡ true) whole }
     requires alive { HoldsBefore (M.specification machine.now) (M.turns machine.now) (M.within machine.now) (λ A. ¬ (IsDeadlock (M.specification machine.now) (M.turns machine.now) (M.rests machine.now) A)) whole }
-    ensures never { IfOk result (λ found. found ≢ finding.Closed) }
-    ensures claims { (limit states : ℕ) → IfOk result (Claims (M.specification machine.now) (M.turns machine.now) (IsOverLimitOf (M.made machine.now) (M.limit machine.now)) steps limit (M.right machine.now) (M.rests machine.now) (M.within machine.now) states) }
+    requires outranked { (limit : ℕ) → bad.fault ≢ Deadlock → HoldsBefore (M.specification machine.now) (M.turns machine.now) (M.within machine.now) (IsAliveOrCrowded (M.specification machine.now) (M.turns machine.now) (IsOverLimitOf (M.made machine.now) (M.limit machine.now)) steps limit (M.right machine.now) (M.rests machine.now) (M.within machine.now)) (suc whole) }
+    ensures through { (looked : ℕ) (states : List Contents) → HoldsBefore (M.specification machine.now) (M.turns machine.now) (M.within machine.now) (IsAmongFirst looked states) whole →
+        IfOk result (IsLookedThrough (M.specification machine.now) (M.turns machine.now) (M.within machine.now) (IsAmongFirst looked states)) }
+    ensures claims { (limit : ℕ) (states : List Contents) → IfOk result (Claims (M.specification machine.now) (M.turns machine.now) (IsOverLimitOf (M.made machine.now) (M.limit machine.now)) steps limit (M.right machine.now) (M.rests machine.now) (M.within machine.now) states) }
 {
     let trail = match trail_to(alloc, machine, nodes, bad.from, initial) {
         Ok(trail) => trail,
         Err(SearchError::Outcomes(crowd)) => {
             return Ok(Finding::TooManyOutcomes {
-                depth: whole,
+                safe: before(whole),
                 crowd,
             });
         }
@@ -151,6 +158,7 @@ pub fn explore_machine<M: Machine, W: Watch<Progress>>(
     let SearchResult {
         nodes,
         whole,
+        safe,
         ended,
         outcomes,
         widest,
@@ -161,12 +169,11 @@ pub fn explore_machine<M: Machine, W: Watch<Progress>>(
         SearchEnd::Closed => Finding::Closed,
         SearchEnd::AtLimit => Finding::SafeTo(whole),
         SearchEnd::BadStep(bad) => bad_run(alloc, machine, initial, &nodes, bad, steps, whole)?,
-        SearchEnd::TooManyStates => Finding::TooManyStates(whole),
-        SearchEnd::TooManyOutcomes(crowd) => Finding::TooManyOutcomes {
-            depth: whole,
-            crowd,
-        },
-        SearchEnd::Memory => Finding::NoMemory(whole),
+        SearchEnd::TooManyStates => {
+            too_many_states(alloc, machine.signature(), &nodes, initial, safe)
+        }
+        SearchEnd::TooManyOutcomes(crowd) => Finding::TooManyOutcomes { safe, crowd },
+        SearchEnd::Memory => Finding::NoMemory(safe),
     };
     let first_quiet = quiet_run(alloc, machine, initial, &nodes, quiet.as_slice());
     Ok(ExplorationResult {

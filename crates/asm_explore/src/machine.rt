@@ -1,5 +1,5 @@
 //! Machines: what is explored.
-ghost use Rattle.std.specs.Prelude.{◌≡◌, ◌<◌, ℕ, Bool, List, length, take, IfOk};
+ghost use Rattle.std.specs.Prelude.{◌≡◌, ◌<◌, ◌↔◌, ℕ, Bool, List, length, take, IsTrue, IfOk, IfErr};
 ghost use Rattle.asm_state.specs.code.Contents.{IsStateOf};
 ghost use Rattle.asm_state.specs.Location.{State as Contents};
 ghost use Rattle.asm_state.specs.Signature.{Shape, count_of, state_of};
@@ -7,10 +7,13 @@ ghost use Rattle.asm_meaning.specs.Run.{Specification};
 ghost use Rattle.asm_explore.specs.declared.outcomes.listed_outcome.Choice.{Choice};
 ghost use Rattle.asm_explore.specs.code.OutcomeLists.{Situation, Each};
 ghost use Rattle.asm_explore.specs.code.StepsAhead.{AreAhead};
-ghost use Rattle.asm_explore.specs.code.StepOutcomes.{IsListed};
+ghost use Rattle.asm_explore.specs.code.StepOutcomes.{IsListed, IsOverLimitOf};
+ghost use Rattle.asm_explore.specs.code.SearchEnds.{HaltsSo};
+ghost use Rattle.asm_explore.specs.Search.{IsQuiet};
 
 use crate::outcomes::listed_outcome::ListedOutcome;
 use crate::outcomes::outcomes_error::OutcomesError;
+use crate::search_error::SearchError;
 use crate::states::index::Index;
 use crate::states::nodes::Nodes;
 use crate::step_ahead::StepAhead;
@@ -61,6 +64,14 @@ pub trait Machine {
         requires sound { is_sound self.now }
         requires whole { length state.now ≡ count_of (shape self.now) }
         ensures { IsListed (shape self.now) (specification self.now) (turns self.now) (made self.now) (limit self.now) (state_of (shape self.now) state.now) result };
+
+    /// Whether the state is quiet: the step from it changes nothing, whatever is chosen. Its outcomes
+    /// are listed only if the step without a line of a script changes nothing.
+    fn is_quiet(&self, alloc: Global, state: &State) -> Result<bool, SearchError>
+        requires sound { is_sound self.now }
+        requires state { IsStateOf (shape self.now) state.now }
+        ensures quiet { IfOk result (λ so. IsTrue so ↔ IsQuiet (specification self.now) (turns self.now) (state_of (shape self.now) state.now)) }
+        ensures crowded { IfErr result (HaltsSo ⊥ (IsOverLimitOf (made self.now) (limit self.now) (state_of (shape self.now) state.now))) };
 
     /// What the steps from the first of these states lead to, when these nodes are reached and in
     /// this index: from all of them, or from fewer, if these have many outcomes, but from one at

@@ -4,11 +4,12 @@
 //! of a shortest run that goes wrong. If nothing is known ahead of a step, or one of the states
 //! that it leads to isn't right, the search lists the outcomes of the step itself
 //! (`expand_listed`). So a fault is found in one way, with the choices that lead to it.
-ghost use Rattle.std.specs.Prelude.{◌≡◌, ◌+◌, ◌^◌, ◌<◌, ◌≤◌, [], true, false, IsTrue, IfSome, IfNone, IfErr, IfOk, Some, length, slice_get, map, take, drop};
+ghost use Rattle.std.specs.Prelude.{◌≡◌, ◌≢◌, ◌+◌, ◌^◌, ◌<◌, ◌≤◌, ℕ, suc, [], true, false, IsTrue, IfSome, IfNone, IfErr, IfOk, Some, length, slice_get, map, take, drop};
 ghost use Rattle.asm_state.specs.code.Contents.{IsStateOf};
 ghost use Rattle.asm_state.specs.Signature.{Shape, count_of, state_of};
 ghost use Rattle.asm_meaning.specs.Yields.{Result as Yielded};
 ghost use Rattle.asm_explore.specs.code.StepsAhead.{AreAhead, IsAhead};
+ghost use Rattle.asm_explore.specs.declared.fault.Fault.TheVariants.{Deadlock};
 ghost use Rattle.asm_explore.specs.declared.search_result.SearchEnd.TheVariants.{Closed, AtLimit, TooManyStates};
 ghost use Rattle.asm_explore.specs.declared.search_error.SearchError.TheVariants as halt;
 ghost use Rattle.asm_explore.specs.declared.outcomes.listed_outcome.ListedOutcome.{ListedOutcome};
@@ -20,6 +21,8 @@ ghost use Rattle.asm_explore.specs.code.ChoicePaths.{HaveOwnPaths};
 ghost use Rattle.asm_explore.specs.code.ReachedStates.{AreInside, AtNode, Known, IsNear, IsGood, FollowsStep, IsLinked, IsLooked, IsOutcome, IsBadStep, IsStopped, LeadsTo, Rises, GoesWrongSo, state_at};
 ghost use Rattle.asm_explore.specs.code.QuietStates.{IsFirstQuiet, IsRested};
 ghost use Rattle.asm_explore.specs.Search.{LeadsOn, IsQuiet, IsDeadlock, IsSafeUpTo, IsSafe, HoldsBefore, HoldsAlways};
+ghost use Rattle.asm_explore.specs.ExplorationResults.{IsAliveOrCrowded, IsSafeIf, beyond, known_to};
+ghost use Rattle.asm_explore.specs.code.LookedStates.{LooksThrough};
 ghost use Rattle.asm_explore.specs.code.StepOutcomes.{IsOverLimitOf, IsStep};
 
 use crate::fault::Fault;
@@ -29,7 +32,9 @@ use crate::progress::{Progress, Watch};
 use crate::same_result::is_same_value;
 use crate::search_error::{SearchError, halted};
 use crate::search_result::{BadStep, SearchEnd, SearchResult, SearchSoFar, cut_off};
+use crate::settled::settle;
 use crate::states::batch::next_batch;
+use crate::states::deadlocks::deadlocks_at;
 use crate::states::index::{Index, hash_of};
 use crate::states::lookup::{is_reached, is_there, note_last};
 use crate::states::nodes::Nodes;
@@ -39,7 +44,7 @@ use asm_state::state::State;
 use std::alloc::{AllocError, Global};
 
 /// Whether two states have the same contents.
-pub(crate) fn is_same_state(left: &State, right: &State, count: usize) -> bool
+pub fn is_same_state(left: &State, right: &State, count: usize) -> bool
     requires left { length left.now ≡ count }
     requires right { length right.now ≡ count }
     ensures same { IsTrue result → left.now ≡ right.now }
@@ -537,11 +542,21 @@ fn whole_depth(nodes: &Nodes, expanded: usize, steps: u32) -> u32
     }
 }
 
+/// The number from which on nodes that are as deep as `whole` may not be expanded, if the first
+/// `expanded` ones are, of those that are less deep than `steps`.
+fn first_left(expanded: usize, whole: u32, steps: u32) -> usize
+    ensures less { whole < steps → result ≡ expanded }
+    ensures most { steps ≤ whole → result ≡ 0 }
+{
+    if whole < steps { expanded } else { 0 }
+}
+
 /// Looks through all runs of `steps` steps. Each run of at most `whole` steps under each script
 /// ends at its limit, in a state that is right; if nothing is left to be looked at, so does each
 /// run of however many steps; if a bad step was found, each script that makes its choices and those
 /// that lead to it has a run that goes wrong in this step. The quiet states are listed, of those
-/// that runs are followed from. The first state is to be right.
+/// that runs are followed from. Of the states that `whole` steps lead to those that weren't looked
+/// at are looked at for deadlocks. The first state is to be right.
 pub fn explore<M: Machine, W: Watch<Progress>>(
     alloc: Global,
     machine: &M,
@@ -559,16 +574,23 @@ pub fn explore<M: Machine, W: Watch<Progress>>(
     ensures alive { IfOk result (λ explored. HoldsBefore (M.specification machine.now) (M.turns machine.now) (M.within machine.now) (λ A. ¬ (IsDeadlock (M.specification machine.now) (M.turns machine.now) (M.rests machine.now) A)) explored.whole) }
     ensures always_alive { IfOk result (λ explored. explored.ended ≡ Closed → HoldsAlways (M.specification machine.now) (M.turns machine.now) (M.within machine.now) (λ A. ¬ (IsDeadlock (M.specification machine.now) (M.turns machine.now) (M.rests machine.now) A))) }
     ensures rested { IfOk result (λ explored. IsRested (M.shape machine.now) (M.specification machine.now) (M.turns machine.now) (M.rests machine.now) (M.within machine.now) steps explored.expanded explored.nodes explored.quiet.items) }
-    ensures lively { IfOk result (λ explored. explored.ended ≡ Closed → explored.quiet.items ≡ [] → HoldsAlways (M.specification machine.now) (M.turns machine.now) (M.within machine.now) (λ A. ¬ (IsQuiet (M.specification machine.now) (M.turns machine.now) A))) }
+    ensures through { IfOk result (λ explored. LooksThrough (M.shape machine.now) (M.specification machine.now) (M.turns machine.now) (M.within machine.now) explored.whole (explored.ended ≡ Closed) explored.nodes (length explored.quiet.items)) }
     ensures first_quiet { IfOk result (λ explored. IsFirstQuiet (M.shape machine.now) (M.specification machine.now) (M.turns machine.now) (M.within machine.now) explored.nodes explored.quiet.items) }
     ensures rises { IfOk result (λ explored. Rises explored.nodes) }
-    ensures at_limit { IfOk result (λ explored. explored.ended ≡ AtLimit → explored.whole ≡ steps) }
+    ensures low { IfOk result (λ explored. explored.whole ≤ steps) }
+    ensures at_limit { IfOk result (λ explored. explored.ended ≡ AtLimit → (explored.whole ≡ steps) × (explored.safe ≡ Some steps)) }
+    ensures settled { IfOk result (λ explored. IsSafeIf (M.specification machine.now) (M.turns machine.now) (IsOverLimitOf (M.made machine.now) (M.limit machine.now)) steps limit (M.right machine.now) (M.rests machine.now) (M.within machine.now) explored.safe) }
+    ensures beyond { IfOk result (λ explored. explored.whole ≤ beyond explored.safe) }
+    ensures known { IfOk result (λ explored. known_to explored.safe ≤ explored.whole) }
+    ensures outranked { IfOk result (λ explored. IfBad explored.ended (λ bad. bad.fault ≢ Deadlock →
+        HoldsBefore (M.specification machine.now) (M.turns machine.now) (M.within machine.now) (IsAliveOrCrowded (M.specification machine.now) (M.turns machine.now) (IsOverLimitOf (M.made machine.now) (M.limit machine.now)) steps limit (M.right machine.now) (M.rests machine.now) (M.within machine.now)) (suc explored.whole))) }
     ensures wrong { IfOk result (λ explored. IfBad explored.ended (GoesWrongSo (M.specification machine.now) (M.turns machine.now) (M.right machine.now) (M.rests machine.now) (M.within machine.now) (M.shape machine.now) explored.nodes)) }
     ensures inside { IfOk result (λ explored. AreInside (M.shape machine.now) (M.specification machine.now) (M.turns machine.now) (M.within machine.now) explored.nodes) }
-    ensures deep { IfOk result (λ explored. IfBad explored.ended (λ bad. (n : Node) → slice_get explored.nodes bad.from ≡ Some n → (n.depth ≡ explored.whole) × (n.depth < steps))) }
+    ensures deep { IfOk result (λ explored. IfBad explored.ended (λ bad. (n : Node) → slice_get explored.nodes bad.from ≡ Some n → (n.depth ≡ explored.whole) × (bad.fault ≢ Deadlock → n.depth < steps))) }
     ensures nodes { IfOk result (λ explored. Each (IsGood (M.shape machine.now) (M.right machine.now)) explored.nodes × Each (IsLinked (M.shape machine.now) (M.specification machine.now) (M.turns machine.now) explored.nodes) explored.nodes) }
-    ensures crowded { IfOk result (λ explored. IfOverLimit explored.ended (AtNode (M.shape machine.now) (IsOverLimitOf (M.made machine.now) (M.limit machine.now)) explored.nodes explored.expanded explored.whole)) }
+    ensures crowded { IfOk result (λ explored. IfOverLimit explored.ended (λ crowd. (number : ℕ) × AtNode (M.shape machine.now) (IsOverLimitOf (M.made machine.now) (M.limit machine.now)) explored.nodes number explored.whole crowd)) }
     ensures full { IfOk result (λ explored. explored.ended ≡ TooManyStates → limit ≤ length explored.nodes) }
+    ensures near { IfOk result (λ explored. explored.ended ≡ TooManyStates → Each (λ n. n.depth ≤ explored.whole + 1) explored.nodes) }
 {
     let count = machine.signature().count();
     let mut nodes = Nodes::new(alloc);
@@ -586,11 +608,15 @@ pub fn explore<M: Machine, W: Watch<Progress>>(
     let looked = search.expand_all(&mut reached, initial, &mut quiet, watch);
     let Reached { nodes, index } = reached;
     let whole = whole_depth(&nodes, looked.expanded, steps);
+    let first = first_left(looked.expanded, whole, steps);
+    let deadlocks = deadlocks_at(alloc, machine, &nodes, first, whole, initial);
+    let end = settle(alloc, looked.ended, deadlocks, whole);
     Ok(SearchResult {
         nodes,
         whole,
+        safe: end.safe,
         expanded: looked.expanded,
-        ended: looked.ended,
+        ended: end.ended,
         outcomes: index.outcomes,
         widest: index.widest,
         quiet,

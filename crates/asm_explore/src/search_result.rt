@@ -42,8 +42,11 @@ pub enum SearchEnd {
 pub struct SearchResult {
     /// The states that were reached.
     pub nodes: Nodes,
-    /// No run of at most `whole` steps goes wrong.
+    /// Each run of at most `whole` steps is fine.
     pub whole: u32,
+    /// No run of at most that many steps goes wrong, and none comes to a deadlock, if that is known
+    /// of any.
+    pub safe: Option<u32>,
     /// How many of the states were looked at, in order.
     pub expanded: usize,
     pub ended: SearchEnd,

@@ -20,7 +20,9 @@ use crate::machine::{Listed, Machine};
 use crate::outcomes::list_outcomes::outcomes;
 use crate::outcomes::listed_outcome::ListedOutcome;
 use crate::outcomes::outcomes_error::OutcomesError;
+use crate::quiet_step::is_quiet_in;
 use crate::resolved_question::ResolvedQuestion;
+use crate::search_error::SearchError;
 use crate::states::index::{Index, MIN_BATCH};
 use crate::states::nodes::Nodes;
 use crate::step_ahead::StepAhead;
@@ -124,6 +126,10 @@ impl<'a> Machine for ResolvedQuestion<'a> {
 
     fn outcomes(&self, alloc: Global, state: &State) -> Listed {
         step_outcomes(alloc, self, state)
+    }
+
+    fn is_quiet(&self, alloc: Global, state: &State) -> Result<bool, SearchError> {
+        is_quiet_in(alloc, self, state)
     }
 
     /// Looks at nothing ahead.

@@ -2,6 +2,8 @@
 
 pub mod batch;
 pub mod byte;
+pub mod deadlocks;
+pub mod different;
 pub mod index;
 pub mod lookup;
 pub mod nodes;

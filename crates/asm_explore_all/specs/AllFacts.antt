@@ -1,14 +1,20 @@
 -- Definition. The lines behind the first of a report of all runs.
 --     condition_lines conditions      the conditions
 --     all_looked_for conditions       which faults are looked for
---     count_lines answer              states, steps, depth, the widest step, and quiet states
+--     count_lines file answer         states, steps, depth, the widest step, and quiet states, with
+--                                     this file of a script to the first of them
+--     quiet_files file run            the file that has the text of this script to a quiet state, if
+--                                     one is asked for by its name, and there is a script
 --     IsCrowd finding lines           of a step with too many outcomes, at which path there are how
 --                                     many beside how many others; where in the text that is is
 --                                     left free
---     IsGraphNote asked file lines    nothing is said of the graph, unless it is asked for and has
---                                     more than 2,000 states
+--     IsGraphText asked text          the text for Graphviz of the graph of the states
+--     IsDrawn asked file lines made   if a graph is asked for by the name of a file, this file is
+--                                     made and has its text, and nothing is said; or it has more
+--                                     than 2,000 states, which is said, and no file is made
 --     AreFacts                        all of them, in order
-use Rattle.std.specs.Prelude.{◌≡◌, ◌⊎◌, ℕ, List, [], ◌∷◌, ◌++◌, length, Option, Some, None, codes, decimal}
+use Rattle.std.specs.Prelude.{◌≡◌, ◌⊎◌, ℕ, List, [], ◌∷◌, ◌++◌, length, Option, Some, None, option_map, codes, decimal}
+use Rattle.std.specs.String.{string_bytes}
 use Rattle.asm_syntax.specs.code.Views.{spec_of}
 use Rattle.asm_check.specs.Shapes.{shape_of}
 use Rattle.asm_meaning.specs.Declarations.{specification_of}
@@ -17,16 +23,19 @@ use Rattle.asm_explore.specs.code.MainRule.{IsMainOverLimit}
 use Rattle.asm_explore.specs.declared.exploration_result.ExplorationResult.{ExplorationResult}
 use Rattle.asm_explore.specs.declared.exploration_result.Finding.{Finding}
 use Rattle.asm_explore.specs.declared.exploration_result.Finding.TheVariants as finding
+use Rattle.asm_explore.specs.declared.exploration_result.QuietRun.{QuietRun}
 use Rattle.asm_explore.specs.declared.outcomes.outcomes_error.RuleOverLimit.{RuleOverLimit}
 use Rattle.asm_run.specs.Trace.{path_text}
+use Rattle.asm_graph.specs.Dot.{dot_of}
 use Rattle.asm_graph.specs.Graphs.{AreTooMany, IsGraph}
 use Rattle.asm_graph.specs.declared.graph.Graph.{Graph}
 use Rattle.asm_explore_texts.specs.Conditions.{text_of, texts_of}
 use Rattle.asm_explore_texts.specs.declared.conditions.Conditions.{Conditions}
 use Rattle.asm_explore_words.specs.declared.settings.Settings.{Settings}
-use Rattle.asm_explore_report.specs.Commands.{command}
+use Rattle.asm_explore_report.specs.Commands.{command, file_word}
 use Rattle.asm_explore_report.specs.Facts.{always_lines, condition_line, looked_for}
 use Rattle.asm_explore_report.specs.ShownRuns.{Shown, first_state, shown_bad}
+use Rattle.asm_explore_all.specs.MadeFiles.{MadeFile}
 use Rattle.asm_explore_all.specs.declared.checked_question.CheckedQuestion.{CheckedQuestion}
 
 -- ---- conditions
@@ -52,10 +61,24 @@ all_looked_for conditions = looked_for (length conditions.always.items) ++ deadl
 abbrev pub count_line : (name : List ℕ) → ℕ → List ℕ
 count_line name count = name ++ (codes " " ++ decimal count)
 
-abbrev pub count_lines : ExplorationResult → List (List ℕ)
-count_lines answer =
+-- in which file there is a script to the first quiet state, if there is one
+abbrev pub script_words : (file : Option (List ℕ)) → Option QuietRun → List ℕ
+script_words None run = []
+script_words (Some name) None = []
+script_words (Some name) (Some run) = codes ", a script to the first: --quiet " ++ file_word name
+
+abbrev pub quiet_line : (file : Option (List ℕ)) → ExplorationResult → List ℕ
+quiet_line file answer = count_line (codes "quiet") answer.quiet ++ script_words file answer.first_quiet
+
+abbrev pub count_lines : (file : Option (List ℕ)) → ExplorationResult → List (List ℕ)
+count_lines file answer =
     count_line (codes "states") answer.states ∷ count_line (codes "steps") answer.outcomes ∷ count_line (codes "depth") answer.depth
-    ∷ count_line (codes "widest") answer.widest ∷ count_line (codes "quiet") answer.quiet ∷ []
+    ∷ count_line (codes "widest") answer.widest ∷ quiet_line file answer ∷ []
+
+abbrev pub quiet_files : (file : Option (List ℕ)) → Option QuietRun → List MadeFile
+quiet_files None run = []
+quiet_files (Some name) None = []
+quiet_files (Some name) (Some run) = (name, string_bytes run.script) ∷ []
 
 pub record IsCrowdLine (crowd : RuleOverLimit) (line : List ℕ) : Type 0 where
   pub position : List ℕ
@@ -64,13 +87,14 @@ pub record IsCrowdLine (crowd : RuleOverLimit) (line : List ℕ) : Type 0 where
       ++ (codes ": " ++ (decimal crowd.first ++ (codes " beside " ++ decimal crowd.others))))))
 
 abbrev pub IsCrowd : Finding → (lines : List (List ℕ)) → Type 0
-IsCrowd (finding.TooManyOutcomes depth crowd) lines = (line : List ℕ) × IsCrowdLine crowd line × (lines ≡ line ∷ [])
+IsCrowd (finding.TooManyOutcomes safe_to crowd) lines = (line : List ℕ) × IsCrowdLine crowd line × (lines ≡ line ∷ [])
 IsCrowd finding.Closed lines = lines ≡ []
 IsCrowd (finding.SafeTo depth) lines = lines ≡ []
 IsCrowd (finding.BadStep bad) lines = lines ≡ []
 IsCrowd finding.WrongFirst lines = lines ≡ []
-IsCrowd (finding.TooManyStates depth) lines = lines ≡ []
-IsCrowd (finding.NoMemory depth) lines = lines ≡ []
+IsCrowd (finding.TooManyStates safe_to) lines = lines ≡ []
+IsCrowd finding.StatesRepeated lines = lines ≡ []
+IsCrowd (finding.NoMemory safe_to) lines = lines ≡ []
 IsCrowd (finding.Unwritten unwritten) lines = lines ≡ []
 
 -- ---- the run that is shown, and how it is made
@@ -80,9 +104,10 @@ shown_in (finding.BadStep bad) = Some (shown_bad bad)
 shown_in finding.WrongFirst = Some first_state
 shown_in finding.Closed = None
 shown_in (finding.SafeTo depth) = None
-shown_in (finding.TooManyStates depth) = None
-shown_in (finding.TooManyOutcomes depth crowd) = None
-shown_in (finding.NoMemory depth) = None
+shown_in (finding.TooManyStates safe_to) = None
+shown_in finding.StatesRepeated = None
+shown_in (finding.TooManyOutcomes safe_to crowd) = None
+shown_in (finding.NoMemory safe_to) = None
 shown_in (finding.Unwritten unwritten) = None
 
 abbrev pub command_lines : (turns : ℕ) → (name : List ℕ) → Option Shown → List (List ℕ)
@@ -95,14 +120,15 @@ abbrev pub graph_note : List ℕ
 graph_note = codes "no graph is written: more than 2000 states"
 
 module _ (asked : CheckedQuestion) where
-  -- there is a graph of at most 2,000 states
-  abbrev pub HasGraph : Type 0
-  HasGraph =
+  -- the text of the graph, which has at most 2,000 states
+  abbrev pub IsGraphText : List ℕ → Type 0
+  IsGraphText text =
       let s = spec_of asked.checked.spec in
       let q = asked.question in
       (graph : Graph)
       × IsGraph (shape_of s) (specification_of s) q.turns (term_holds asked.checked q.within) (IsMainOverLimit asked.checked q.turns q.outcomes) q.steps 2000
       (term_holds asked.checked q.always) (term_holds asked.checked q.when_quiet) graph
+      × (text ≡ dot_of s graph)
 
   abbrev pub HasTooMany : Type 0
   HasTooMany =
@@ -110,16 +136,18 @@ module _ (asked : CheckedQuestion) where
       AreTooMany (specification_of (spec_of asked.checked.spec)) q.turns (term_holds asked.checked q.within) q.steps 2000
 
   -- it is asked for by the name of a file
-  abbrev pub IsGraphNote : {X : Type 0} → (file : Option X) → (lines : List (List ℕ)) → Type 0
-  IsGraphNote None lines = lines ≡ []
-  IsGraphNote (Some name) lines = (HasGraph × (lines ≡ [])) ⊎ (HasTooMany × (lines ≡ graph_note ∷ []))
+  abbrev pub IsDrawn : (file : Option (List ℕ)) → (lines : List (List ℕ)) → (made : List MadeFile) → Type 0
+  IsDrawn None lines made = (lines ≡ []) × (made ≡ [])
+  IsDrawn (Some name) lines made =
+      ((text : List ℕ) × IsGraphText text × (lines ≡ []) × (made ≡ (name, text) ∷ [])) ⊎ (HasTooMany × (lines ≡ graph_note ∷ []) × (made ≡ []))
 
 -- ---- all of them
 
-pub record AreFacts (asked : CheckedQuestion) (conditions : Conditions) (settings : Settings) (answer : ExplorationResult) (lines : List (List ℕ)) : Type 0 where
+-- with these lines of the graph
+pub record AreFacts (conditions : Conditions) (settings : Settings) (answer : ExplorationResult) (graph lines : List (List ℕ)) : Type 0 where
   pub crowd : List (List ℕ)
   pub is_crowd : IsCrowd answer.finding crowd
-  pub graph : List (List ℕ)
-  pub is_graph : IsGraphNote asked settings.dot graph
   pub are :
-      lines ≡ crowd ++ (condition_lines conditions ++ (all_looked_for conditions ∷ (count_lines answer ++ (graph ++ command_lines settings.turns settings.spec.now (shown_in answer.finding)))))
+      let counts = count_lines (option_map (λ name. name.now) settings.quiet) answer in
+      let made = command_lines settings.turns settings.spec.now (shown_in answer.finding) in
+      lines ≡ crowd ++ (condition_lines conditions ++ (all_looked_for conditions ∷ (counts ++ (graph ++ made))))

@@ -1,11 +1,14 @@
 -- Definition. What is printed of an exploration of all runs.
 --     status_of finding             the status
---     WordsTell                     the words are of the fault that is found
+--     WordsTell                     the words are of the fault that is found; if a state was reached
+--                                   twice, which is an error of this program, there are none
 --     IsReport                      the first comment says what is found, the others are the facts,
 --                                   and the script is that of the run that is found
 --     IsReported                    what is printed says what is found of the specification with
---                                   this text
-use Rattle.std.specs.Prelude.{◌≡◌, ℕ, List, ⊤}
+--                                   this text, and these files are made: of the graph of states and
+--                                   of the script to the first quiet state
+--     IsReportedBy                  the files that are known to be made grow by these
+use Rattle.std.specs.Prelude.{◌≡◌, ℕ, List, ◌++◌, Option, option_map, ⊤}
 use Rattle.asm_state.specs.declared.operation.Op.{Op}
 use Rattle.asm_syntax.specs.code.Views.{spec_of}
 use Rattle.asm_syntax.specs.declared.term.Term.{Term}
@@ -19,9 +22,10 @@ use Rattle.asm_explore_words.specs.declared.settings.Settings.{Settings}
 use Rattle.asm_explore_report.specs.FaultWords.{BadTells, IsBroken, unwritten_words}
 use Rattle.asm_explore_report.specs.Printed.{IsPrinted}
 use Rattle.asm_explore_report.specs.declared.report.Report.{Report}
-use Rattle.asm_explore_all.specs.AllFacts.{AreFacts, shown_in}
+use Rattle.asm_explore_all.specs.AllFacts.{AreFacts, IsDrawn, quiet_files, shown_in}
 use Rattle.asm_explore_all.specs.CheckedQuestions.{IsExplored}
 use Rattle.asm_explore_all.specs.FindingLine.{first_line}
+use Rattle.asm_explore_all.specs.MadeFiles.{MadeFile, Makes}
 use Rattle.asm_explore_all.specs.declared.checked_question.CheckedQuestion.{CheckedQuestion}
 
 abbrev pub status_of : Finding → ℕ
@@ -30,30 +34,40 @@ status_of (finding.SafeTo depth) = 0
 status_of (finding.BadStep bad) = 1
 status_of finding.WrongFirst = 1
 status_of (finding.Unwritten unwritten) = 1
-status_of (finding.TooManyStates depth) = 5
-status_of (finding.TooManyOutcomes depth crowd) = 5
-status_of (finding.NoMemory depth) = 5
+status_of (finding.TooManyStates safe_to) = 5
+status_of finding.StatesRepeated = 3
+status_of (finding.TooManyOutcomes safe_to crowd) = 5
+status_of (finding.NoMemory safe_to) = 5
 
 abbrev pub WordsTell : Checked → List (Op × Term) → (turns : ℕ) → Finding → (words : List ℕ) → Type 0
 WordsTell checked links turns (finding.BadStep bad) words = BadTells checked links turns bad words
 WordsTell checked links turns finding.WrongFirst words = IsBroken checked links (specification_of (spec_of checked.spec)).initial words
 WordsTell checked links turns finding.Closed words = ⊤
 WordsTell checked links turns (finding.SafeTo depth) words = ⊤
-WordsTell checked links turns (finding.TooManyStates depth) words = ⊤
-WordsTell checked links turns (finding.TooManyOutcomes depth crowd) words = ⊤
-WordsTell checked links turns (finding.NoMemory depth) words = ⊤
+WordsTell checked links turns (finding.TooManyStates safe_to) words = ⊤
+WordsTell checked links turns finding.StatesRepeated words = ⊥
+WordsTell checked links turns (finding.TooManyOutcomes safe_to crowd) words = ⊤
+WordsTell checked links turns (finding.NoMemory safe_to) words = ⊤
 WordsTell checked links turns (finding.Unwritten unwritten) words = words ≡ unwritten_words
 
 module _ (text : List ℕ) (conditions : Conditions) (settings : Settings) where
-  pub record IsReport (asked : CheckedQuestion) (links : List (Op × Term)) (answer : ExplorationResult) (printed : List ℕ) : Type 0 where
+  pub record IsReport (asked : CheckedQuestion) (links : List (Op × Term)) (answer : ExplorationResult) (graph : List (List ℕ)) (printed : List ℕ) : Type 0 where
     pub words : List ℕ
     pub tell : WordsTell asked.checked links asked.question.turns answer.finding words
     pub facts : List (List ℕ)
-    pub are_facts : AreFacts asked conditions settings answer facts
+    pub are_facts : AreFacts conditions settings answer graph facts
     pub are_printed : IsPrinted text asked.question.turns settings.trace (first_line answer.finding words) facts (shown_in answer.finding) printed
 
-  pub record IsReported (report : Report) : Type 0 where
+  pub record IsReported (report : Report) (files : List MadeFile) : Type 0 where
     pub answer : ExplorationResult
     pub explored : IsExplored text conditions settings answer
     pub status : report.status ≡ status_of answer.finding
-    pub printed : IsReport explored.asked explored.is_asked.always.links answer report.text.items
+    -- what is said of the graph, and its file
+    pub graph : List (List ℕ)
+    pub drawn : List MadeFile
+    pub is_drawn : IsDrawn explored.asked (option_map (λ name. name.now) settings.dot) graph drawn
+    pub printed : IsReport explored.asked explored.is_asked.always.links answer graph report.text.items
+    pub made : files ≡ drawn ++ quiet_files (option_map (λ name. name.now) settings.quiet) answer.first_quiet
+
+  abbrev pub IsReportedBy : (old new : Option (List MadeFile)) → Report → Type 0
+  IsReportedBy old new report = (files : List MadeFile) × Makes old new files × IsReported report files

@@ -5,8 +5,7 @@ ghost use Rattle.asm_syntax.specs.code.Views.{spec_of};
 ghost use Rattle.asm_syntax.specs.declared.term.Term.{Term as Code};
 ghost use Rattle.asm_run.specs.Headline.{IsAccepted};
 ghost use Rattle.asm_explore_texts.specs.Conditions.{IsJoined};
-ghost use Rattle.asm_explore_all.specs.AllFacts.{IsGraphNote};
-ghost use Rattle.asm_explore_all.specs.AllReport.{IsReport, IsReported, WordsTell, status_of as found_status};
+ghost use Rattle.asm_explore_all.specs.AllReport.{IsReport, IsReportedBy, WordsTell, status_of as found_status};
 ghost use Rattle.asm_explore_all.specs.CheckedQuestions.{IsAsked};
 ghost use Rattle.asm_explore_all.specs.code.GraphFiles.{graph_lines};
 
@@ -15,6 +14,7 @@ use crate::facts::{facts, shown_run};
 use crate::files::NewFiles;
 use crate::finding_line::finding_line;
 use crate::graph_file::{GraphFile, draw};
+use crate::quiet_file::write_script;
 use asm_explore::{ExplorationResult, Finding, Progress, Watch};
 use asm_explore_report::fault_words::{Subject, UNWRITTEN, bad_words, first_words};
 use asm_explore_report::printed::printed;
@@ -34,6 +34,7 @@ fn status_of(finding: &Finding) -> u8
     match finding {
         Finding::Closed | Finding::SafeTo(_) => 0,
         Finding::BadStep(_) | Finding::WrongFirst | Finding::Unwritten(_) => 1,
+        Finding::StatesRepeated => 3,
         Finding::TooManyStates(_) | Finding::TooManyOutcomes { .. } | Finding::NoMemory(_) => 5,
     }
 }
@@ -53,6 +54,7 @@ fn words_of<'w, R: Threads + Sync>(
         Finding::BadStep(bad) => bad_words(rt, alloc, text, subject, bad),
         Finding::WrongFirst => first_words(alloc, subject),
         Finding::Unwritten(_) => Ok(Vec::from_slice(alloc, UNWRITTEN)?),
+        Finding::StatesRepeated => Err(Fault::StatesRepeated),
         Finding::Closed
         | Finding::SafeTo(_)
         | Finding::TooManyStates(_)
@@ -73,9 +75,8 @@ fn printed_of<'w, R: Threads + Sync>(
     drawing: GraphFile,
 ) -> Result<Vec<u8>, Fault<'w>>
     requires accepted { IsAccepted text.now (spec_of asked.now.checked.spec) }
-    requires drawn { IsGraphNote asked.now settings.now.dot (graph_lines drawing) }
     ensures { (links : List (Op × Code)) → IsJoined links asked.now.question.always →
-        IfOk result (λ whole. IsReport text.now conditions.now settings.now asked.now links answered.now whole.items) }
+        IfOk result (λ whole. IsReport text.now conditions.now settings.now asked.now links answered.now (graph_lines drawing) whole.items) }
 {
     let finding = &answered.finding;
     let subject = Subject {
@@ -110,10 +111,11 @@ fn workers_of(settings: &Settings<'_>) -> usize
     }
 }
 
-/// What is printed of the result for what is asked of a specification, and the status of that.
+/// What is printed of the result for what is asked of a specification, and the status of that. The
+/// files that the settings name are made before.
 fn reported<'w, R: Threads + Sync, F: NewFiles, W: Watch<Progress>>(
     rt: &R,
-    files: &F,
+    files: &mut F,
     alloc: Global,
     text: &[u8],
     asked: &CheckedQuestion,
@@ -122,12 +124,13 @@ fn reported<'w, R: Threads + Sync, F: NewFiles, W: Watch<Progress>>(
     watch: &mut W,
 ) -> Result<Report, Fault<'w>>
     requires asked { IsAsked text.now conditions.now settings.now asked.now }
-    ensures { IfOk result (IsReported text.now conditions.now settings.now) }
+    ensures { IfOk result (IsReportedBy text.now conditions.now settings.now (F.made files.old) (F.made files.new)) }
 {
     let workers = workers_of(settings);
     let (checked, question) = (&asked.checked, &asked.question);
     let answered = explore_all_by(rt, alloc, checked, question, workers, watch)?;
     let drawing = draw(files, alloc, asked, settings.dot)?;
+    write_script(files, &answered.first_quiet, settings.quiet)?;
     let text = printed_of(
         rt, alloc, text, asked, conditions, settings, &answered, drawing,
     )?;
@@ -136,17 +139,17 @@ fn reported<'w, R: Threads + Sync, F: NewFiles, W: Watch<Progress>>(
 }
 
 /// What is printed of the specification with this text, and the status of that. The graph of states
-/// is written to its file before, if one is named.
+/// and the script to the first quiet state are written to their files before, if these are named.
 pub fn all_report<'w, R: Threads + Sync, F: NewFiles, W: Watch<Progress>>(
     rt: &R,
-    files: &F,
+    files: &mut F,
     alloc: Global,
     text: &[u8],
     conditions: &Conditions<'w>,
     settings: &Settings<'w>,
     watch: &mut W,
 ) -> Result<Report, Fault<'w>>
-    ensures { IfOk result (IsReported text.now conditions.now settings.now) }
+    ensures { IfOk result (IsReportedBy text.now conditions.now settings.now (F.made files.old) (F.made files.new)) }
 {
     let asked = ask(alloc, text, conditions, settings)?;
     let report = reported(rt, files, alloc, text, &asked, conditions, settings, watch);

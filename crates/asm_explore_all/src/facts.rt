@@ -1,18 +1,19 @@
 //! The lines behind the first of a report of all runs.
-ghost use Rattle.std.specs.Prelude.{◌≡◌, ◌∷◌, ◌++◌, [], IfOk, OnOk};
+ghost use Rattle.std.specs.Prelude.{◌≡◌, ◌∷◌, ◌++◌, [], option_map, IfOk, OnOk};
 ghost use Rattle.std.specs.String.{string_bytes};
 ghost use Rattle.asm_explore_texts.specs.Conditions.{text_of};
 ghost use Rattle.asm_explore_report.specs.Comments.{lines_of};
 ghost use Rattle.asm_explore_report.specs.Facts.{condition_line};
 ghost use Rattle.asm_explore_report.specs.ShownRuns.{shown_of};
-ghost use Rattle.asm_explore_all.specs.AllFacts.{AreFacts, IsCrowd, IsCrowdLine, IsGraphNote, all_looked_for, command_lines, condition_lines, count_line, count_lines, optional_line, shown_in};
+ghost use Rattle.asm_explore_all.specs.AllFacts.{AreFacts, IsCrowd, IsCrowdLine, all_looked_for, command_lines, condition_lines, count_line, count_lines, optional_line, script_words, shown_in};
+ghost use Rattle.asm_explore_all.specs.AllFacts as all;
 ghost use Rattle.asm_explore_all.specs.code.GraphFiles.{graph_lines};
 
 use crate::checked_question::CheckedQuestion;
 use crate::graph_file::GraphFile;
 use asm_check::Checked;
-use asm_explore::{ExplorationResult, Finding, RuleOverLimit};
-use asm_explore_report::command::command;
+use asm_explore::{ExplorationResult, Finding, QuietRun, RuleOverLimit};
+use asm_explore_report::command::{command, push_file_word};
 use asm_explore_report::facts::{add, add_always, add_condition, add_text, looked_for};
 use asm_explore_report::shown_run::{ShownRun, first_state, run_of};
 use asm_explore_texts::conditions::{Condition, Conditions};
@@ -73,19 +74,54 @@ fn add_count(
     add_text(lines, format!(in alloc; "{name} {count}")?)
 }
 
-/// Adds the counts.
+/// Adds in which file there is a script to the first quiet state, if there is one.
+fn push_script_file(
+    alloc: Global,
+    line: &mut Vec<u8>,
+    file: Option<&str>,
+    run: &Option<QuietRun>,
+) -> Result<(), AllocError>
+    ensures { OnOk result (line.new.items ≡ line.old.items ++ script_words (option_map (λ name. name.now) file.entry) run.now) }
+{
+    let Some(name) = file else {
+        return Ok(());
+    };
+    if run.is_none() {
+        return Ok(());
+    }
+    line.extend_from_slice(b", a script to the first: --quiet ")?;
+    push_file_word(alloc, line, name.as_bytes())
+}
+
+/// How many states are quiet, and in which file there is a script to the first of them.
+fn quiet_line(
+    alloc: Global,
+    file: Option<&str>,
+    answered: &ExplorationResult,
+) -> Result<Vec<u8>, AllocError>
+    ensures { IfOk result (λ line. line.items ≡ all.quiet_line (option_map (λ name. name.now) file.entry) answered.now) }
+{
+    let quiet = answered.quiet;
+    let mut line = format!(in alloc; "quiet {quiet}")?.into_bytes();
+    push_script_file(alloc, &mut line, file, &answered.first_quiet)?;
+    Ok(line)
+}
+
+/// Adds the counts. The script to the first quiet state is in this file, if there is one.
 fn add_counts(
     alloc: Global,
     lines: &mut Vec<Vec<u8>>,
+    file: Option<&str>,
     answered: &ExplorationResult,
 ) -> Result<(), AllocError>
-    ensures { OnOk result (lines_of lines.new.items ≡ lines_of lines.old.items ++ count_lines answered.now) }
+    ensures { OnOk result (lines_of lines.new.items ≡ lines_of lines.old.items ++ count_lines (option_map (λ name. name.now) file.entry) answered.now) }
 {
     add_count(alloc, lines, "states", answered.states)?;
     add_count(alloc, lines, "steps", answered.outcomes)?;
     add_count(alloc, lines, "depth", answered.depth as usize)?;
     add_count(alloc, lines, "widest", answered.widest)?;
-    add_count(alloc, lines, "quiet", answered.quiet)?;
+    let quiet = quiet_line(alloc, file, answered)?;
+    add(lines, quiet)?;
     Ok(())
 }
 
@@ -199,14 +235,13 @@ pub(crate) fn facts(
     answered: &ExplorationResult,
     drawing: GraphFile,
 ) -> Result<Vec<Vec<u8>>, AllocError>
-    requires { IsGraphNote asked.now settings.now.dot (graph_lines drawing) }
-    ensures { IfOk result (λ lines. AreFacts asked.now conditions.now settings.now answered.now (lines_of lines.items)) }
+    ensures { IfOk result (λ lines. AreFacts conditions.now settings.now answered.now (graph_lines drawing) (lines_of lines.items)) }
 {
     let finding = &answered.finding;
     let mut lines = crowd_lines(alloc, text, &asked.checked, finding)?;
     add_conditions(alloc, &mut lines, conditions)?;
     add_text(&mut lines, all_looked_for_line(alloc, conditions)?)?;
-    add_counts(alloc, &mut lines, answered)?;
+    add_counts(alloc, &mut lines, settings.quiet, answered)?;
     add_graph_note(alloc, &mut lines, drawing)?;
     add_command(alloc, &mut lines, settings, shown_run(finding))?;
     Ok(lines)

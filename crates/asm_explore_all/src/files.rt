@@ -1,12 +1,16 @@
 //! Files that are made.
+ghost use Rattle.std.specs.Prelude.{◌∷◌, [], List, Option, OnOk};
+ghost use Rattle.asm_explore_all.specs.MadeFiles.{MadeFile, Makes};
+
 use std::io;
-use std::io::Write;
 
 /// Makes files.
 pub trait NewFiles {
-    /// A file that is made.
-    type New: Write + Drop;
+    // The files that were made, in order, each with its name and its bytes, where known.
+    ghost made: { Self → Option (List MadeFile) };
 
-    /// An empty file of this name. What a file of this name had is gone.
-    fn create(&self, name: &str) -> io::Result<Self::New>;
+    /// Makes a file of this name, which has these bytes. What a file of this name had is gone, even
+    /// if the new one can't be written.
+    fn make(&mut self, name: &str, bytes: &[u8]) -> io::Result<()>
+        ensures made { OnOk result (Makes (made self.old) (made self.new) ((name.now, bytes.now) ∷ [])) };
 }

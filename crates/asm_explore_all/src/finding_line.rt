@@ -1,10 +1,20 @@
 //! The first line of a report of all runs.
 ghost use Rattle.std.specs.Prelude.{◌≡◌, IfOk};
-ghost use Rattle.asm_explore_all.specs.FindingLine.{first_line as line_of};
+ghost use Rattle.asm_explore_all.specs.FindingLine.{first_line as line_of, limit_line};
 
 use asm_explore::Finding;
 use asm_explore_report::first_line::{of_fault, of_first};
 use std::alloc::{AllocError, Global};
+
+/// What ended the search, and up to how many steps it is safe, if up to any.
+fn of_limit(alloc: Global, name: &str, safe: Option<u32>) -> Result<Vec<u8>, AllocError>
+    ensures { IfOk result (λ line. line.items ≡ limit_line name.now safe) }
+{
+    match safe {
+        Some(depth) => Ok(format!(in alloc; "{name}, safe up to {depth} steps")?.into_bytes()),
+        None => Vec::from_slice(alloc, name.as_bytes()),
+    }
+}
 
 /// What is found, in a line. These words describe the fault, if there is one.
 pub(crate) fn finding_line(
@@ -21,15 +31,10 @@ pub(crate) fn finding_line(
         }
         Finding::BadStep(bad) => of_fault(alloc, bad.fault, bad.step, words),
         Finding::WrongFirst => of_first(alloc, words),
-        Finding::TooManyStates(depth) => {
-            Ok(format!(in alloc; "too many states, safe up to {depth} steps")?.into_bytes())
-        }
-        Finding::TooManyOutcomes { depth, .. } => {
-            Ok(format!(in alloc; "too many outcomes, safe up to {depth} steps")?.into_bytes())
-        }
-        Finding::NoMemory(depth) => {
-            Ok(format!(in alloc; "too much memory, safe up to {depth} steps")?.into_bytes())
-        }
+        Finding::TooManyStates(safe) => of_limit(alloc, "too many states", *safe),
+        Finding::StatesRepeated => Vec::from_slice(alloc, b"a state was reached twice"),
+        Finding::TooManyOutcomes { safe, .. } => of_limit(alloc, "too many outcomes", *safe),
+        Finding::NoMemory(safe) => of_limit(alloc, "too much memory", *safe),
         Finding::Unwritten(unwritten) => of_fault(alloc, unwritten.fault, unwritten.step, words),
     }
 }

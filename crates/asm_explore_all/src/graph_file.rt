@@ -1,6 +1,8 @@
 //! The graph of states, written to a file.
-ghost use Rattle.std.specs.Prelude.{IfNone, IfOk, IfSome};
-ghost use Rattle.asm_explore_all.specs.AllFacts.{HasGraph, HasTooMany, IsGraphNote};
+ghost use Rattle.std.specs.Prelude.{List, option_map, IfNone, IfOk, IfSome};
+ghost use Rattle.std.specs.String.{string_bytes};
+ghost use Rattle.asm_explore_all.specs.AllFacts.{HasTooMany, IsDrawn, IsGraphText};
+ghost use Rattle.asm_explore_all.specs.MadeFiles.{MadeFile, Makes};
 ghost use Rattle.asm_explore_all.specs.code.GraphFiles.{graph_lines};
 
 use crate::checked_question::CheckedQuestion;
@@ -8,7 +10,6 @@ use crate::files::NewFiles;
 use asm_explore_words::fault::Fault;
 use asm_graph::{GraphError, dot_text, state_graph};
 use std::alloc::Global;
-use std::io::Write;
 
 /// How many states a graph has at most.
 const MAX_GRAPH_STATES: u32 = 2000;
@@ -26,7 +27,7 @@ pub(crate) enum GraphFile {
 
 /// The text of the graph of states that the question comes to, unless it has too many.
 fn graph_text<'w>(alloc: Global, asked: &CheckedQuestion) -> Result<Option<String>, Fault<'w>>
-    ensures few { IfOk result (λ text. IfSome text (λ dot. HasGraph asked.now)) }
+    ensures few { IfOk result (λ text. IfSome text (λ dot. IsGraphText asked.now (string_bytes dot))) }
     ensures many { IfOk result (λ text. IfNone text (HasTooMany asked.now)) }
 {
     let graph = match state_graph(alloc, &asked.checked, &asked.question, MAX_GRAPH_STATES) {
@@ -37,30 +38,17 @@ fn graph_text<'w>(alloc: Global, asked: &CheckedQuestion) -> Result<Option<Strin
     Ok(Some(dot_text(alloc, &asked.checked, &graph)?))
 }
 
-/// Writes a text to a file that it makes.
-fn write_new<'w, F: NewFiles>(files: &F, name: &'w str, text: &str) -> Result<(), Fault<'w>> {
-    let Ok(mut file) = files.create(name) else {
-        return Err(Fault::Graph(name));
-    };
-    match file.write_all(text.as_bytes()) {
-        Ok(()) => {}
-        Err(_) => return Err(Fault::Graph(name)),
-    }
-    match file.flush() {
-        Ok(()) => Ok(()),
-        Err(_) => Err(Fault::Graph(name)),
-    }
-}
-
 /// Writes the graph of states to the file of this name, if one is given. Nothing is written if it
 /// has too many states.
+#[tactic(auto, using(crate::proofs::GrowingFiles::makes_none))]
 pub(crate) fn draw<'w, F: NewFiles>(
-    files: &F,
+    files: &mut F,
     alloc: Global,
     asked: &CheckedQuestion,
     name: Option<&'w str>,
 ) -> Result<GraphFile, Fault<'w>>
-    ensures { IfOk result (λ drawing. IsGraphNote asked.now name.entry (graph_lines drawing)) }
+    ensures { IfOk result (λ drawing. (made : List MadeFile) × Makes (F.made files.old) (F.made files.new) made
+        × IsDrawn asked.now (option_map (λ name. name.now) name.entry) (graph_lines drawing) made) }
 {
     let Some(name) = name else {
         return Ok(GraphFile::NotAsked);
@@ -68,6 +56,8 @@ pub(crate) fn draw<'w, F: NewFiles>(
     let Some(text) = graph_text(alloc, asked)? else {
         return Ok(GraphFile::TooMany);
     };
-    write_new(files, name, text.as_str())?;
-    Ok(GraphFile::Written)
+    match files.make(name, text.as_bytes()) {
+        Ok(()) => Ok(GraphFile::Written),
+        Err(_) => Err(Fault::Graph(name)),
+    }
 }

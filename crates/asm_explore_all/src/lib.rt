@@ -7,3 +7,4 @@ mod facts;
 pub mod files;
 mod finding_line;
 mod graph_file;
+mod quiet_file;

@@ -16,9 +16,17 @@ fn main(rt: HostRuntime) -> ExitCode {
     let status = match words(&rt) {
         Ok(words) => match buffered(rt.alloc(), rt.stdout()) {
             Ok(mut out) => {
-                let (files, input) = (SystemFiles::new(&rt), rt.stdin());
+                let (mut files, input) = (SystemFiles::new(&rt), rt.stdin());
                 let words = words.as_slice();
-                status(&rt, &files, words, input, &mut out, &mut err, is_terminal)
+                status(
+                    &rt,
+                    &mut files,
+                    words,
+                    input,
+                    &mut out,
+                    &mut err,
+                    is_terminal,
+                )
             }
             Err(error) => refusal(&NoAnswer::from(error), &mut err),
         },

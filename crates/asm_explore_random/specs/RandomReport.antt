@@ -1,7 +1,7 @@
 -- Definition. What is asked of random runs, by the bytes of a specification's text and of
 -- conditions, and what is printed of them.
 --     IsRandomAsked              the specification of the text, and a question with the term of the
---                                conditions
+--                                conditions; a run may rest in each state
 --     random_status finding      1 if a fault is found, and else 0
 --     RandomTells                the words are of the fault that is found, as `WordsTell` says it
 --     random_line                what is found, in a line; these words describe the fault, if there
@@ -10,14 +10,14 @@
 --                                the script is that of the run that is found
 --     IsRandomReported           what is printed says what is found of the specification with this
 --                                text
-use Rattle.std.specs.Prelude.{◌≡◌, ℕ, List, ◌++◌, codes, decimal, ⊤}
+use Rattle.std.specs.Prelude.{◌≡◌, ℕ, List, ◌++◌, None, codes, decimal, ⊤}
 use Rattle.asm_state.specs.declared.operation.Op.{Op}
 use Rattle.asm_syntax.specs.code.Views.{spec_of}
 use Rattle.asm_syntax.specs.declared.term.Term.{Term}
 use Rattle.asm_check.specs.declared.checked.Checked.{Checked}
 use Rattle.asm_meaning.specs.Declarations.{specification_of}
 use Rattle.asm_explore.specs.Conditions.{term_holds}
-use Rattle.asm_random.specs.RandomResults.{Claims}
+use Rattle.asm_random.specs.RandomResults.{Claims, Counts}
 use Rattle.asm_random.specs.declared.random_result.RandomResult.{RandomResult}
 use Rattle.asm_random.specs.declared.random_result.RandomFinding.{RandomFinding}
 use Rattle.asm_random.specs.declared.random_result.RandomFinding.TheVariants as random
@@ -36,6 +36,7 @@ use Rattle.asm_explore_random.specs.RandomFacts.{random_facts, shown_in}
 pub record IsRandomAsked (text : List ℕ) (conditions : List Condition) (settings : RandomSettings) (asked : CheckedRandomQuestion) : Type 0 where
   pub accepted : IsAccepted text (spec_of asked.checked.spec)
   pub always : AreAllAsked text (texts_of conditions) asked.checked asked.question.always
+  pub when_quiet : asked.question.when_quiet ≡ None
   pub turns : asked.question.turns ≡ settings.turns
   pub steps : asked.question.steps ≡ settings.steps
   pub runs : asked.question.runs ≡ settings.runs
@@ -77,6 +78,10 @@ module _ (text : List ℕ) (conditions : List Condition) (settings : RandomSetti
     -- what the finding says of the runs of the specification with this text
     pub claims :
         let q = asked.question in
-        Claims (specification_of (spec_of asked.checked.spec)) q.turns q.steps (term_holds asked.checked q.always) answer.finding
+        Claims (specification_of (spec_of asked.checked.spec)) q.turns q.steps (term_holds asked.checked q.always) (term_holds asked.checked q.when_quiet) answer.finding
+    -- and how many runs were made before, which are fine
+    pub counts :
+        let q = asked.question in
+        Counts (specification_of (spec_of asked.checked.spec)) q.turns q.steps (term_holds asked.checked q.always) q.runs answer.runs answer.steps answer.finding
     pub status : report.status ≡ random_status answer.finding
     pub printed : IsRandomReport asked is_asked.always.links answer report.text.items

@@ -1,5 +1,5 @@
 //! What is asked of random runs of a specification, from the texts.
-ghost use Rattle.std.specs.Prelude.{◌≡◌, IfOk};
+ghost use Rattle.std.specs.Prelude.{◌≡◌, None, IfOk};
 ghost use Rattle.asm_explore_random.specs.RandomReport.{IsRandomAsked};
 
 use asm_check::Checked;
@@ -18,9 +18,11 @@ pub struct CheckedRandomQuestion {
     pub question: RandomQuestion,
 }
 
-/// What is looked for if this is to hold in each state, by the settings, which have `turns` turns.
+/// What is looked for if this is to hold in each state, by the settings, which have `turns` turns. A
+/// run may rest in each state, so that no outcome is listed.
 fn question_of(always: Option<Term>, turns: u32, settings: &RandomSettings<'_>) -> RandomQuestion
     ensures always { result.always ≡ always }
+    ensures when_quiet { result.when_quiet ≡ None }
     ensures turns { result.turns ≡ turns }
     ensures steps { result.steps ≡ settings.now.steps }
     ensures runs { result.runs ≡ settings.now.runs }
@@ -28,10 +30,12 @@ fn question_of(always: Option<Term>, turns: u32, settings: &RandomSettings<'_>) 
 {
     RandomQuestion {
         always,
+        when_quiet: None,
         turns,
         steps: settings.steps,
         runs: settings.runs,
         seed: settings.seed,
+        outcomes: 0,
     }
 }
 

@@ -72,7 +72,7 @@ fn guard(name: &[u8]) -> &'static [u8]
 }
 
 /// Adds the word for a file's name.
-fn push_file_word(alloc: Global, out: &mut Vec<u8>, name: &[u8]) -> Result<(), AllocError>
+pub fn push_file_word(alloc: Global, out: &mut Vec<u8>, name: &[u8]) -> Result<(), AllocError>
     ensures { OnOk result (out.new.items ≡ out.old.items ++ commands.file_word name.now) }
 {
     let mut whole = Vec::from_slice(alloc, guard(name))?;

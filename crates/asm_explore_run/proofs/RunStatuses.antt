@@ -2,7 +2,7 @@
 --     choices_told         the status of a run that ends so
 --     clash_told           the status of a run that ends by these assignments
 --     found_of_count       how many of them are found
-use Rattle.std.proofs.Common.{◌≡◌, ◌∙◌, ℕ, Bool, true, false, length, min, take, inl, inr, refl, sym, ap, subst, arith}
+use Rattle.std.proofs.Common.{◌≡◌, ◌∙◌, ◌==◌, ℕ, false, cond, List, [], ◌∷◌, length, min, take, refl, sym, ap, arith}
 use Rattle.std.proofs.lemmas.List.{length-map, length-take}
 use Rattle.asm_syntax.specs.SourceTree.{Spec}
 use Rattle.asm_reader.specs.ScriptLines.{Script}
@@ -15,20 +15,21 @@ use Rattle.asm_clash.specs.Standing.{assigned_of}
 use Rattle.asm_clash.specs.declared.clash.ClashOfRun.{ClashOfRun}
 use Rattle.asm_clash.specs.declared.clash.ClashOfRun.TheVariants as clash
 use Rattle.asm_explore_run.specs.ClashText.{greatest_shown}
-use Rattle.asm_explore_run.specs.RunReport.{IsRunStatus, assignments_in, choices_status, clash_status, count_in, status_of_end}
+use Rattle.asm_explore_run.specs.code.EndStatuses.{status_with}
+use Rattle.asm_explore_run.specs.RunReport.{assignments_in, choices_status, clash_status, count_in, status_of_end}
 
-zero_or_six : (all_met : Bool) → IsRunStatus AtLimit (choices_status Limit all_met)
-zero_or_six true = inl refl
-zero_or_six false = inr refl
+none_or_some : (unmet : List (List ℕ)) → cond (length unmet == 0) 0 6 ≡ choices_status AtLimit unmet
+none_or_some [] = refl
+none_or_some (line ∷ more) = let long : (length (line ∷ more) == 0) ≡ false = grind (arith) in ap (λ b. cond b 0 6) long
 
 -- A run ends at its limit just when the result says so.
-pub choices_told : (end : End) (answer : shown.End) (all_met : Bool) → IsReturned end answer → IsRunStatus end (choices_status answer all_met)
-choices_told AtLimit answer all_met is = subst (λ a. IsRunStatus AtLimit (choices_status a all_met)) (sym is) (zero_or_six all_met)
-choices_told (AtExhausted step q) answer all_met is = ap (λ a. choices_status a all_met) is
-choices_told (AtFault step U) Limit all_met is = absurd is
-choices_told (AtFault step U) (Exhausted at q) all_met is = absurd is
-choices_told (AtFault step U) (Clash at f vs least greatest) all_met is = refl
-choices_told (AtFault step U) (Outside at f) all_met is = refl
+pub choices_told : (end : End) (answer : shown.End) (unmet : List (List ℕ)) → IsReturned end answer → status_with answer (length unmet == 0) ≡ choices_status end unmet
+choices_told AtLimit answer unmet is = ap (λ a. status_with a (length unmet == 0)) is ∙ none_or_some unmet
+choices_told (AtExhausted step q) answer unmet is = ap (λ a. status_with a (length unmet == 0)) is
+choices_told (AtFault step U) Limit unmet is = absurd is
+choices_told (AtFault step U) (Exhausted at q) unmet is = absurd is
+choices_told (AtFault step U) (Clash at f vs least greatest) unmet is = refl
+choices_told (AtFault step U) (Outside at f) unmet is = refl
 
 pub clash_told : (tree : Spec) (turns : ℕ) (script : Script) (most : ℕ) (r : Run) (ended : ClashOfRun) → EndsSo tree turns script most r ended → clash_status ended ≡ status_of_end r.end
 clash_told tree turns script most r clash.Limit ends = sym (ap status_of_end ends)

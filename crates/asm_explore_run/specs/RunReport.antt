@@ -1,16 +1,19 @@
 -- Definition. What is printed of one run.
 --     status_of_end end               1 if the run ends before its limit, and else 0
---     IsRunStatus end status          the same, or 6 instead of 0
---     IsChoicesText                   a script with comments between its lines
---     IsPrintedOf Tells               a first comment that tells this, and such a script
+--     choices_status end unmet        the same, but 6 instead of 0 if there are unmet lines
+--     IsPrintedOf Tells               a first comment that tells this, and a script with comments
+--                                     between its lines
 --     AreChoicesReported              what is printed is how the run ends, in a comment, and a
 --                                     script with a line for each choice of the run, under which
---                                     the run is the same; where that has no text, the comment
+--                                     the run is the same, each behind a comment with its
+--                                     candidates; and comments for the lines of the given script
+--                                     that name no choice of the run. Where that has no text, it
+--                                     is the first comment
 --     assignments_in, count_in        the first assignments by which a run ends, if it has such, and
 --                                     how many there are
 --     IsClashReported                 comments: how the run ends, and one for each assignment by
 --                                     which it does, as many as fit into a script
-use Rattle.std.specs.Prelude.{◌≡◌, ◌⊎◌, ℕ, Bool, cond, List, []}
+use Rattle.std.specs.Prelude.{◌≡◌, ◌⊎◌, ℕ, List, [], ◌∷◌}
 use Rattle.asm_syntax.specs.SourceTree.{Spec}
 use Rattle.asm_reader.specs.code.ExactLines.{exactly}
 use Rattle.asm_reader.specs.ScriptLines.{Line, Script}
@@ -18,21 +21,23 @@ use Rattle.asm_reader.specs.ScriptText.{IsScript}
 use Rattle.asm_meaning.specs.Scripts.{IsUnrepeated}
 use Rattle.asm_meaning.specs.Declarations.{specification_of}
 use Rattle.asm_meaning.specs.Run.{AtExhausted, AtFault, AtLimit, End, Run, run}
-use Rattle.asm_explore.specs.RunChoices.{AreChoices, lines_forward}
+use Rattle.asm_explore.specs.ChoicePoints.{Asking}
+use Rattle.asm_explore.specs.RunChoices.{AreAsked, AreChoices, lines_forward}
 use Rattle.asm_explore.specs.declared.outcomes.listed_outcome.Choice.{Choice}
 use Rattle.asm_run.specs.Headline.{IsAccepted, IsReturned}
 use Rattle.asm_run.specs.Written.{names_in}
+use Rattle.asm_run.specs.Trace.{TraceNames}
 use Rattle.asm_run.specs.declared.end.End as shown
-use Rattle.asm_run.specs.declared.end.End.TheVariants.{Clash, Exhausted, Limit, Outside}
 use Rattle.asm_clash.specs.ClashOfRun.{EndsSo}
 use Rattle.asm_clash.specs.code.ReadByCode.{AreReadByCode}
 use Rattle.asm_clash.specs.declared.assignment.Assignment.{Assignment}
 use Rattle.asm_clash.specs.declared.clash.ClashOfRun.{ClashOfRun}
 use Rattle.asm_clash.specs.declared.clash.ClashOfRun.TheVariants as clash
-use Rattle.asm_explore_report.specs.Commented.{HasNoText, IsCommentedText, IsWithoutScript, said_by}
+use Rattle.asm_explore_report.specs.Commented.{HasNoText}
 use Rattle.asm_explore_report.specs.EndWords.{IsRunLine}
-use Rattle.asm_explore_report.specs.declared.commented.Entry.{Entry}
+use Rattle.asm_explore_run.specs.ChoicesText.{IsChoicesText}
 use Rattle.asm_explore_run.specs.ClashText.{IsClashText, greatest_shown}
+use Rattle.asm_explore_run.specs.UnmetLines.{unmet_lines}
 use Rattle.asm_explore_report.specs.declared.report.Report.{Report}
 use Rattle.asm_explore_words.specs.declared.settings.RunSettings.{RunSettings}
 
@@ -42,16 +47,12 @@ run_asked tree settings script = run (specification_of tree) settings.turns scri
 
 -- ---- statuses
 
-abbrev pub choices_status : shown.End → (all_met : Bool) → ℕ
-choices_status Limit all_met = cond all_met 0 6
-choices_status (Clash i f vs least greatest) all_met = 1
-choices_status (Outside i f) all_met = 1
-choices_status (Exhausted i p) all_met = 1
-
-abbrev pub IsRunStatus : End → ℕ → Type 0
-IsRunStatus AtLimit status = (status ≡ 0) ⊎ (status ≡ 6)
-IsRunStatus (AtExhausted step q) status = status ≡ 1
-IsRunStatus (AtFault step U) status = status ≡ 1
+-- of a run that ends so, with what is said of the unmet lines of its script
+abbrev pub choices_status : End → (unmet : List (List ℕ)) → ℕ
+choices_status AtLimit [] = 0
+choices_status AtLimit (line ∷ more) = 6
+choices_status (AtExhausted step q) unmet = 1
+choices_status (AtFault step U) unmet = 1
 
 abbrev pub clash_status : ClashOfRun → ℕ
 clash_status clash.Limit = 0
@@ -65,11 +66,6 @@ status_of_end (AtFault step U) = 1
 
 -- ---- what is printed
 
--- a first comment, these lines with comments between and after them, or what of it fits
-abbrev pub IsChoicesText : (first : List ℕ) → List Line → (text : List ℕ) → Type 0
-IsChoicesText first lines text =
-    ((entries : List Entry) × (last : List (List ℕ)) × (said_by entries ≡ lines) × IsCommentedText first entries last text) ⊎ IsWithoutScript first lines text
-
 abbrev pub assignments_in : ClashOfRun → List Assignment
 assignments_in clash.Limit = []
 assignments_in (clash.Exhausted step q) = []
@@ -81,10 +77,10 @@ count_in (clash.Exhausted step q) = 0
 count_in (clash.Faulty step fault found count) = count
 
 -- a first comment that tells this, and it spells the script, unless that has no text
-pub record IsPrintedOf (Tells : List ℕ → Type 0) (lines : List Line) (text : List ℕ) : Type 0 where
+pub record IsPrintedOf (names : TraceNames) (Tells : List ℕ → Type 0) (asked : List (List Asking)) (lines : List Line) (unmet : List (List ℕ)) (text : List ℕ) : Type 0 where
   pub first : List ℕ
   pub tells : Tells first
-  pub is : IsChoicesText first lines text
+  pub is : IsChoicesText names first asked lines unmet text
   pub says : IsUnrepeated (exactly lines) → IsScript text (exactly lines) ⊎ HasNoText first lines
 
 module _ (text script_text : List ℕ) (settings : RunSettings) (report : Report) where
@@ -95,10 +91,16 @@ module _ (text script_text : List ℕ) (settings : RunSettings) (report : Report
     pub spelled : IsScript script_text script
     pub steps : List (List Choice)
     pub choices : AreChoices tree settings.turns script settings.steps steps
-    pub printed : IsPrintedOf (IsRunLine (names_in tree) settings.steps (run_asked tree settings script).end) (lines_forward steps) report.text.items
+    pub asked : List (List Asking)
+    pub are_asked : AreAsked tree settings.turns script settings.steps asked
+    pub printed :
+        let names = names_in tree in
+        let made = lines_forward steps in
+        let tells = IsRunLine names settings.steps (run_asked tree settings script).end in
+        IsPrintedOf names tells asked made (unmet_lines script_text made) report.text.items
     pub apart : IsUnrepeated (exactly (lines_forward steps))
     pub again : run_asked tree settings (exactly (lines_forward steps)) ≡ run_asked tree settings script
-    pub status : IsRunStatus (run_asked tree settings script).end report.status
+    pub status : report.status ≡ choices_status (run_asked tree settings script).end (unmet_lines script_text (lines_forward steps))
 
   pub record IsClashReported : Type 0 where
     pub tree : Spec

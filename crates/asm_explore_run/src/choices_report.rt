@@ -1,27 +1,30 @@
 //! What is printed of the choices of a run.
-ghost use Rattle.std.specs.Prelude.{◌≡◌, ◌⊎◌, Bool, IfOk};
+ghost use Rattle.std.specs.Prelude.{◌≡◌, ◌⊎◌, IfOk};
 ghost use Rattle.asm_syntax.specs.code.Views.{spec_of};
 ghost use Rattle.asm_meaning.specs.Declarations.{specification_of};
+ghost use Rattle.asm_meaning.specs.Run as runs;
 ghost use Rattle.asm_meaning.specs.Scripts.{IsUnrepeated};
 ghost use Rattle.asm_reader.specs.code.ExactLines.{exactly};
 ghost use Rattle.asm_reader.specs.ScriptLines.{Script};
 ghost use Rattle.asm_reader.specs.ScriptText.{IsScript};
-ghost use Rattle.asm_explore.specs.RunChoices.{AreChoices, MakesTheRun, choices_in, lines_forward};
-ghost use Rattle.asm_explore.specs.code.WrittenScripts.{lines_said};
-ghost use Rattle.asm_explore_report.specs.Commented.{HasNoText, said_by};
-ghost use Rattle.asm_meaning.specs.Run as runs;
+ghost use Rattle.asm_explore.specs.RunChoices.{AreAsked, AreChoices, MakesTheRun, asked_in, choices_in, lines_forward};
+ghost use Rattle.asm_explore_report.specs.Commented.{HasNoText};
+ghost use Rattle.asm_explore_report.specs.Comments.{lines_of};
+ghost use Rattle.asm_explore_report.specs.EndWords.{IsRunLine};
 ghost use Rattle.asm_run.specs.Headline.{IsAccepted, IsReturned};
 ghost use Rattle.asm_run.specs.Written.{names_in};
-ghost use Rattle.asm_explore_report.specs.EndWords.{IsRunLine};
-ghost use Rattle.asm_explore_run.specs.RunReport.{AreChoicesReported, IsChoicesText, IsPrintedOf, choices_status};
+ghost use Rattle.asm_explore_run.specs.ChoicesText.{IsChoicesText};
+ghost use Rattle.asm_explore_run.specs.RunReport.{AreChoicesReported, IsPrintedOf, choices_status};
+ghost use Rattle.asm_explore_run.specs.UnmetLines as unmet;
+ghost use Rattle.asm_explore_run.specs.code.EndStatuses.{status_with};
 
-use crate::choose_line::choose_line;
+use crate::choice_entries::entries;
 use crate::run_end::ended;
 use crate::unmet_lines::unmet_lines;
 use asm_check::Checked;
-use asm_explore::{ChoicePoint, RunChoices, ScriptLine, choices_of_run, lines_of_run};
+use asm_explore::{RunChoices, choices_of_run, lines_of_run};
 use asm_explore_report::checked_text::checked;
-use asm_explore_report::commented::{Entry, commented_script, first_alone};
+use asm_explore_report::commented::{commented_script, first_alone};
 use asm_explore_report::ended::EndedRun;
 use asm_explore_report::report::Report;
 use asm_explore_texts::script_given::script_given;
@@ -37,7 +40,7 @@ const MAX_LINES: usize = 349_525;
 
 /// The status of a run that ends so, if all lines of the script were met, or if some weren't.
 fn status_of(end: &End, all_met: bool) -> u8
-    ensures { result ≡ choices_status end.now all_met }
+    ensures { result ≡ status_with end.now all_met }
 {
     match end {
         End::Limit => { if all_met { 0 } else { 6 } }
@@ -45,59 +48,8 @@ fn status_of(end: &End, all_met: bool) -> u8
     }
 }
 
-/// All that was asked, one after the other.
-fn all_asked<'a>(alloc: Global, run: &'a RunChoices) -> Result<Vec<&'a ChoicePoint>, AllocError> {
-    let mut all = Vec::new(alloc);
-    let steps = run.steps.as_slice();
-    for k in 0..steps.len() {
-        let asked = steps[k].as_slice();
-        for i in 0..asked.len() {
-            all.push(&asked[i])?;
-        }
-    }
-    Ok(all)
-}
-
-/// The comments before the line of a choice.
-fn comments_before(
-    alloc: Global,
-    text: &[u8],
-    checked: &Checked,
-    asked: Option<&&ChoicePoint>,
-) -> Result<Vec<Vec<u8>>, AllocError> {
-    let mut comments = Vec::new(alloc);
-    if let Some(asked) = asked {
-        let path = asked.choice.path.as_slice();
-        let candidates = asked.candidates.as_slice();
-        comments.push(choose_line(alloc, text, checked, path, candidates)?)?;
-    }
-    Ok(comments)
-}
-
-/// These lines, one for each choice of a run, with their comments.
-fn entries<'a>(
-    alloc: Global,
-    text: &[u8],
-    checked: &Checked,
-    run: &'a RunChoices,
-    lines: &[ScriptLine<'a>],
-) -> Result<Vec<Entry<'a>>, AllocError>
-    ensures { IfOk result (λ entries. said_by entries.items ≡ lines_said lines.now) }
-{
-    let asked = all_asked(alloc, run)?;
-    let mut entries = Vec::new(alloc);
-    for k in 0..lines.len() {
-        let comments = comments_before(alloc, text, checked, asked.get(k))?;
-        entries.push(Entry {
-            comments,
-            line: lines[k],
-        })?;
-    }
-    Ok(entries)
-}
-
 /// The script that makes the choices of a run, with its comments; or the first of them, where it
-/// has no text.
+/// has no text. The lines are those of the run.
 fn printed(
     alloc: Global,
     text: &[u8],
@@ -106,7 +58,8 @@ fn printed(
     run: &RunChoices,
     unmet: &[Vec<u8>],
 ) -> Result<Vec<u8>, AllocError>
-    ensures text { IfOk result (λ text. IsChoicesText first.now (lines_forward (choices_in run.now)) text.items) }
+    ensures text { let names = names_in (spec_of checked.now.spec) in
+        IfOk result (λ text. IsChoicesText names first.now (asked_in run.now) (lines_forward (choices_in run.now)) (lines_of unmet.now) text.items) }
     ensures says { IsUnrepeated (exactly (lines_forward (choices_in run.now))) → IfOk result (λ text. IsScript text.items (exactly (lines_forward (choices_in run.now)))
         ⊎ HasNoText first.now (lines_forward (choices_in run.now))) }
 {
@@ -114,8 +67,16 @@ fn printed(
     if lines.len() > MAX_LINES {
         return first_alone(alloc, first);
     }
-    let entries = entries(alloc, text, checked, run, lines.as_slice())?;
+    let entries = entries(alloc, text, checked, run)?;
     commented_script(alloc, first, entries.as_slice(), unmet)
+}
+
+/// What is said of the lines of a script that name no choice of a run.
+fn unmet_of(alloc: Global, script_text: &[u8], run: &RunChoices) -> Result<Vec<Vec<u8>>, AllocError>
+    ensures { IfOk result (λ said. lines_of said.items ≡ unmet.unmet_lines script_text.now (lines_forward (choices_in run.now))) }
+{
+    let made = lines_of_run(alloc, run)?;
+    unmet_lines(alloc, script_text, made.as_slice())
 }
 
 /// What was asked in the run of a specification that the settings ask for.
@@ -127,7 +88,8 @@ fn run_of<'w>(
 ) -> Result<RunChoices, Fault<'w>>
     ensures { IfOk result (λ run. (script : Script) × IsScript script_text.now script ×
         AreChoices (spec_of checked.now.spec) settings.now.turns script settings.now.steps (choices_in run) ×
-        MakesTheRun (specification_of (spec_of checked.now.spec)) settings.now.turns script settings.now.steps (lines_forward (choices_in run))) }
+        MakesTheRun (specification_of (spec_of checked.now.spec)) settings.now.turns script settings.now.steps (lines_forward (choices_in run)) ×
+        AreAsked (spec_of checked.now.spec) settings.now.turns script settings.now.steps (asked_in run)) }
 {
     let script = script_given(alloc, script_text, settings)?;
     let run = choices_of_run(alloc, checked, settings.turns, &script, settings.steps)?;
@@ -145,12 +107,14 @@ fn reported<'w>(
     ended: &EndedRun,
 ) -> Result<Report, AllocError>
     ensures printed { let names = names_in (spec_of checked.now.spec) in
+        let made = lines_forward (choices_in run.now) in
         (e : runs.End) → IsReturned e ended.now.end →
-        IfOk result (λ report. IsPrintedOf (IsRunLine names settings.now.steps e) (lines_forward (choices_in run.now)) report.text.items) }
-    ensures status { IfOk result (λ report. (all_met : Bool) × report.status ≡ choices_status ended.now.end all_met) }
+        IfOk result (λ report. IsPrintedOf names (IsRunLine names settings.now.steps e) (asked_in run.now) made (unmet.unmet_lines script_text.now made) report.text.items) }
+    ensures status { (e : runs.End) → IsReturned e ended.now.end →
+        IfOk result (λ report. report.status ≡ choices_status e (unmet.unmet_lines script_text.now (lines_forward (choices_in run.now)))) }
 {
     let first = ended.line(alloc, checked, settings.steps)?;
-    let unmet = unmet_lines(alloc, script_text, run)?;
+    let unmet = unmet_of(alloc, script_text, run)?;
     let status = status_of(&ended.end, unmet.is_empty());
     let text = printed(
         alloc,

@@ -2,9 +2,11 @@
 #![tactic(auto)]
 
 mod assignment_line;
+mod choice_entries;
 pub mod choices_report;
 mod choose_line;
 pub mod clash_report;
 mod clash_text;
+mod line_keys;
 mod run_end;
 mod unmet_lines;

@@ -1,135 +1,153 @@
-//! Lines of a script that no choose met.
-use asm_explore::RunChoices;
+//! Lines of a script that name no choice of a run.
+ghost use Rattle.std.specs.Prelude.{◌≡◌, ◌∷◌, ◌++◌, [], ℕ, List, cond, false, map, true, IfOk, OnOk};
+ghost use Rattle.std.specs.Str.{bytes_eq};
+ghost use Rattle.std.specs.Str.Lines.{strip_carriage_return};
+ghost use Rattle.asm_explore.specs.code.WrittenScripts.{AreSteps, line_said, lines_said};
+ghost use Rattle.asm_explore_report.specs.Comments.{lines_of};
+ghost use Rattle.asm_explore_run.specs.UnmetLines.{unmet_line as text_of_unmet, unmet_lines as texts_of_unmet};
+ghost use Rattle.asm_explore_run.specs.code.LineKeys.{has_key, has_key_of, have_keys, is_key_of, is_made, left_from};
+
+use crate::line_keys::{EVERY_STEP, is_skipped, key_of, parts, without_return};
+use asm_explore::ScriptLine;
 use std::alloc::{AllocError, Global};
 use std::collections::BTreeSet;
 
-/// Of each line of a script that no choose of the run met what is said of it, in the order of the
-/// text. A line is met by a choose at its path that is asked in its step, or in any step if it is
-/// for every step.
-pub(crate) fn unmet_lines(
-    alloc: Global,
-    script: &[u8],
-    run: &RunChoices,
-) -> Result<Vec<Vec<u8>>, AllocError> {
-    let mut unmet = Vec::new(alloc);
-    let mut keys = keys_of(alloc, script)?;
-    remove_met(alloc, &mut keys, run)?;
-    if keys.is_empty() {
-        return Ok(unmet);
-    }
-    let mut number: u64 = 0;
-    for line in script.split(|b| *b == b'\n') {
-        number = number.saturating_add(1);
-        let line = without_return(line);
-        if is_among(alloc, &keys, line)? {
-            unmet.push(unmet_line(alloc, number, line)?)?;
-        }
-    }
-    Ok(unmet)
-}
+/// The keys of steps and paths.
+type Keys = BTreeSet<Vec<u64>>;
 
-/// What is said of a line with this number that no choose met.
-fn unmet_line(alloc: Global, number: u64, line: &[u8]) -> Result<Vec<u8>, AllocError> {
-    let mut said = format!(in alloc; "no choose met line {number} of the script: ")?.into_bytes();
+/// What is said of a line with this number that names no choice.
+fn unmet_line(alloc: Global, number: usize, line: &[u8]) -> Result<Vec<u8>, AllocError>
+    ensures { IfOk result (λ said. said.items ≡ text_of_unmet number line.now) }
+{
+    let mut said = Vec::new(alloc);
+    said.extend_from_slice(b"no choose met line ")?;
+    said.extend_from_slice(format!(in alloc; "{number}")?.as_bytes())?;
+    said.extend_from_slice(b" of the script: ")?;
     said.extend_from_slice(line)?;
     Ok(said)
 }
 
-/// The keys of the lines of a script.
-fn keys_of(alloc: Global, script: &[u8]) -> Result<BTreeSet<Vec<u64>>, AllocError> {
-    let mut keys = BTreeSet::new(alloc);
-    for line in script.split(|b| *b == b'\n') {
-        if let Some(key) = key_of(alloc, without_return(line))? {
-            keys.insert(key)?;
-        }
-    }
-    Ok(keys)
-}
-
-/// Removes the keys of the chooses that a run asks.
-fn remove_met(
-    alloc: Global,
-    keys: &mut BTreeSet<Vec<u64>>,
-    run: &RunChoices,
-) -> Result<(), AllocError> {
-    if keys.is_empty() {
+/// Adds the key of a line, if it says something.
+fn add_key(alloc: Global, keys: &mut Keys, line: &[u8]) -> Result<(), AllocError>
+    ensures kept { OnOk result ((q : List ℕ) → has_key q keys.old ≡ true → has_key q keys.new ≡ true) }
+    ensures added { OnOk result (have_keys keys.new (line.now ∷ []) ≡ true) }
+{
+    if is_skipped(line) {
         return Ok(());
     }
-    let steps = run.steps.as_slice();
-    for k in 0..steps.len() {
-        let asked = steps[k].as_slice();
-        for i in 0..asked.len() {
-            let path = asked[i].choice.path.as_slice();
-            let _ = keys.remove(&key_at(alloc, k as u64 + 1, path)?);
-            let _ = keys.remove(&key_at(alloc, EVERY_STEP, path)?);
-        }
+    if let Some(key) = key_of(alloc, line)? {
+        keys.insert(key)?;
     }
     Ok(())
 }
 
-/// Whether the key of a line is one of these.
-fn is_among(alloc: Global, keys: &BTreeSet<Vec<u64>>, line: &[u8]) -> Result<bool, AllocError> {
-    match key_of(alloc, line)? {
-        Some(key) => Ok(keys.contains(&key)),
-        None => Ok(false),
+/// The keys of the lines of a script.
+fn keys_of(alloc: Global, lines: &[&[u8]]) -> Result<Keys, AllocError>
+    ensures { IfOk result (λ keys. have_keys keys (map (λ l. strip_carriage_return l.now) lines.now) ≡ true) }
+{
+    let mut keys = BTreeSet::new(alloc);
+    for i in 0..lines.len() {
+        add_key(alloc, &mut keys, without_return(lines[i]))?;
     }
+    Ok(keys)
 }
 
-/// Instead of a step in the key of a line for every step: steps count from 1.
-const EVERY_STEP: u64 = 0;
-
-/// The key of a step and a path: the step, and after it the path.
-fn key_at(alloc: Global, step: u64, path: &[u64]) -> Result<Vec<u64>, AllocError> {
+/// The key of a step and a path.
+fn key_at(alloc: Global, step: u64, path: &[u64]) -> Result<Vec<u64>, AllocError>
+    ensures { IfOk result (λ key. key.items ≡ step ∷ path.now) }
+{
     let mut key = Vec::new(alloc);
     key.push(step)?;
     key.extend_from_slice(path)?;
     Ok(key)
 }
 
-/// The key of a line of a script, if it says something.
-fn key_of(alloc: Global, line: &[u8]) -> Result<Option<Vec<u64>>, AllocError> {
-    if matches!(line, [] | [b'#', ..]) {
-        return Ok(None);
-    }
-    let mut fields = line.split(|b| *b == b' ');
-    let Some(step) = fields.next() else {
-        return Ok(None);
-    };
-    let Some(path) = fields.next() else {
-        return Ok(None);
-    };
-    let mut key = Vec::new(alloc);
-    key.push(step_of(step))?;
-    if path != b"-".as_slice() {
-        for digits in path.split(|b| *b == b'.') {
-            key.push(value_of(digits))?;
-        }
-    }
-    Ok(Some(key))
+/// Removes the key of a step and a path.
+fn remove_key(alloc: Global, keys: &mut Keys, step: u64, path: &[u64]) -> Result<(), AllocError>
+    ensures { OnOk result ((q : List ℕ) → has_key q keys.new ≡ cond (bytes_eq (step ∷ path.now) q) false (has_key q keys.old)) }
+{
+    let key = key_at(alloc, step, path)?;
+    let _ = keys.remove(&key);
+    Ok(())
 }
 
-/// The step that a line's first field names.
-fn step_of(field: &[u8]) -> u64 {
-    if field == b"*".as_slice() {
-        return EVERY_STEP;
-    }
-    value_of(field)
+/// Removes the keys of a choice: in its step, and in every step.
+fn remove_choice(alloc: Global, keys: &mut Keys, choice: &ScriptLine<'_>) -> Result<(), AllocError>
+    ensures { OnOk result ((q : List ℕ) → has_key q keys.new ≡ cond (is_key_of q (line_said choice.now)) false (has_key q keys.old)) }
+{
+    remove_key(alloc, keys, choice.step, choice.path)?;
+    remove_key(alloc, keys, EVERY_STEP, choice.path)?;
+    Ok(())
 }
 
-/// The value of digits; a script has at most nine of them.
-fn value_of(digits: &[u8]) -> u64 {
-    let mut value: u64 = 0;
-    for digit in digits {
-        let last = u64::from(digit.saturating_sub(b'0'));
-        value = value.saturating_mul(10).saturating_add(last);
+/// Removes the keys of choices that are made.
+fn remove_met(alloc: Global, keys: &mut Keys, made: &[ScriptLine<'_>]) -> Result<(), AllocError>
+    ensures { OnOk result ((q : List ℕ) → has_key q keys.new ≡ cond (is_made (lines_said made.now) q) false (has_key q keys.old)) }
+{
+    if keys.is_empty() {
+        return Ok(());
     }
-    value
+    for k in 0..made.len() {
+        remove_choice(alloc, keys, &made[k])?;
+    }
+    Ok(())
 }
 
-/// The line without the carriage return at its end, if it has one.
-fn without_return(line: &[u8]) -> &[u8] {
-    match line {
-        [front @ .., b'\r'] => front,
-        _ => line,
+/// Whether a line says something, and its key is one of these.
+fn is_among(alloc: Global, keys: &Keys, line: &[u8]) -> Result<bool, AllocError>
+    ensures { IfOk result (λ is. is ≡ has_key_of line.now keys.now) }
+{
+    if is_skipped(line) {
+        return Ok(false);
     }
+    match key_of(alloc, line)? {
+        Some(key) => Ok(keys.contains(&key)),
+        None => Ok(false),
+    }
+}
+
+/// Adds what is said of a line with this number, if its key is among these.
+fn add_if_left(
+    alloc: Global,
+    keys: &Keys,
+    number: usize,
+    line: &[u8],
+    said: &mut Vec<Vec<u8>>,
+) -> Result<(), AllocError>
+    ensures { OnOk result (lines_of said.new.items ≡ lines_of said.old.items ++ cond (has_key_of line.now keys.now) (text_of_unmet number line.now ∷ []) []) }
+{
+    let is_left = is_among(alloc, keys, line)?;
+    if is_left {
+        let comment = unmet_line(alloc, number, line)?;
+        said.push(comment)?;
+    }
+    Ok(())
+}
+
+/// What is said of those lines of a script whose keys are among these.
+fn said_of_left(alloc: Global, keys: &Keys, lines: &[&[u8]]) -> Result<Vec<Vec<u8>>, AllocError>
+    ensures { IfOk result (λ said. lines_of said.items ≡ left_from 1 keys.now (map (λ l. strip_carriage_return l.now) lines.now)) }
+{
+    let mut said = Vec::new(alloc);
+    for i in 0..lines.len() {
+        add_if_left(alloc, keys, i + 1, without_return(lines[i]), &mut said)?;
+    }
+    Ok(said)
+}
+
+/// Of each line of a script that names no choice of a run what is said of it, in the order of the
+/// text. The choices are given as lines.
+pub(crate) fn unmet_lines(
+    alloc: Global,
+    script: &[u8],
+    made: &[ScriptLine<'_>],
+) -> Result<Vec<Vec<u8>>, AllocError>
+    requires { AreSteps (lines_said made.now) }
+    ensures { IfOk result (λ unmet. lines_of unmet.items ≡ texts_of_unmet script.now (lines_said made.now)) }
+{
+    let lines = parts(alloc, script, b'\n')?;
+    let mut keys = keys_of(alloc, lines.as_slice())?;
+    remove_met(alloc, &mut keys, made)?;
+    let unmet = said_of_left(alloc, &keys, lines.as_slice())?;
+    Ok(unmet)
 }

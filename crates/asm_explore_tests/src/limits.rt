@@ -91,7 +91,7 @@ static STATES: [Case; 4] = [
         COUNTER,
         Asked { states: 1, ..ANY },
         Told {
-            verdict: Verdict::TooManyStates(0),
+            verdict: Verdict::TooManyStates(Some(0)),
             states: 1,
             depth: 0,
             outcomes: 1,
@@ -103,7 +103,7 @@ static STATES: [Case; 4] = [
         COUNTER,
         Asked { states: 10, ..ANY },
         Told {
-            verdict: Verdict::TooManyStates(9),
+            verdict: Verdict::TooManyStates(Some(9)),
             states: 10,
             depth: 9,
             outcomes: 10,
@@ -116,7 +116,7 @@ static STATES: [Case; 4] = [
         MUTEX,
         Asked { states: 23, ..ANY },
         Told {
-            verdict: Verdict::TooManyStates(5),
+            verdict: Verdict::TooManyStates(Some(5)),
             states: 23,
             depth: 6,
             outcomes: 42,
@@ -160,21 +160,21 @@ struct Crowded {
     body: &'static str,
     /// This many may be listed.
     limit: usize,
-    /// All states of less depth are expanded.
-    depth: u32,
+    /// It is safe up to this many steps.
+    safe: u32,
     path: &'static [u64],
     /// This many has a part or a candidate.
     first: usize,
-    /// This many have those that are beside it, came before it, or go on.
+    /// This many have those that are beside it, or are listed so far.
     others: usize,
 }
 
-static TOO_MANY: [Crowded; 7] = [
+static TOO_MANY: [Crowded; 8] = [
     // From the last element to the first, each has two times as many.
     Crowded {
         body: "forall i in Many do choose j in Bit do f(i) := j endchoose endforall",
         limit: 1000,
-        depth: 0,
+        safe: 0,
         path: &[],
         first: 2,
         others: 512,
@@ -183,7 +183,7 @@ static TOO_MANY: [Crowded; 7] = [
         body: "par x := 1 let v = 2 in \
 forall i in Many do choose j in Few do f(i) := j + v endchoose endforall endlet endpar",
         limit: 1000,
-        depth: 0,
+        safe: 0,
         path: &[1, 0],
         first: 3,
         others: 729,
@@ -191,7 +191,7 @@ forall i in Many do choose j in Few do f(i) := j + v endchoose endforall endlet 
     Crowded {
         body: "par choose i in Few do x := i endchoose choose j in Bit do y := j endchoose endpar",
         limit: 5,
-        depth: 0,
+        safe: 0,
         path: &[],
         first: 3,
         others: 2,
@@ -199,7 +199,7 @@ forall i in Many do choose j in Few do f(i) := j + v endchoose endforall endlet 
     Crowded {
         body: "choose i in Few do x := i endchoose",
         limit: 2,
-        depth: 0,
+        safe: 0,
         path: &[],
         first: 1,
         others: 2,
@@ -207,7 +207,17 @@ forall i in Many do choose j in Few do f(i) := j + v endchoose endforall endlet 
     Crowded {
         body: "seq choose i in Few do x := i endchoose choose i in Few do y := i endchoose endseq",
         limit: 8,
-        depth: 0,
+        safe: 0,
+        path: &[],
+        first: 3,
+        others: 6,
+    },
+    // The second part ends the sequence: each of its sets gives `y` two values.
+    Crowded {
+        body: "seq choose i in Few do x := i endchoose \
+choose i in Few do par y := i y := 3 endpar endchoose endseq",
+        limit: 8,
+        safe: 0,
         path: &[],
         first: 3,
         others: 6,
@@ -216,7 +226,7 @@ forall i in Many do choose j in Few do f(i) := j + v endchoose endforall endlet 
     Crowded {
         body: "iterate choose i in Few do x := x + i endchoose enditerate",
         limit: 4,
-        depth: 0,
+        safe: 0,
         path: &[],
         first: 3,
         others: 4,
@@ -225,7 +235,7 @@ forall i in Many do choose j in Few do f(i) := j + v endchoose endforall endlet 
     Crowded {
         body: "if x = 0 then x := 1 else choose i in Few do y := i endchoose endif",
         limit: 2,
-        depth: 1,
+        safe: 1,
         path: &[1],
         first: 1,
         others: 2,
@@ -247,7 +257,7 @@ fn is_crowd(crowd: &RuleOverLimit, row: &Crowded) -> bool {
 /// Whether too many outcomes are found as the row says.
 fn finds_crowd(finding: &Finding, row: &Crowded) -> bool {
     match finding {
-        Finding::TooManyOutcomes { depth, crowd } => *depth == row.depth && is_crowd(crowd, row),
+        Finding::TooManyOutcomes { safe, crowd } => *safe == Some(row.safe) && is_crowd(crowd, row),
         _ => false,
     }
 }

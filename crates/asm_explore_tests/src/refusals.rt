@@ -60,7 +60,7 @@ rule M = forall i in Few do choose j in Bit do f(i) := j endchoose endforall";
 const FOUR: Asked = Asked { outcomes: 4, ..ANY };
 
 const CROWDED: Told = Told {
-    verdict: Verdict::TooManyOutcomes(0, 2, 4),
+    verdict: Verdict::TooManyOutcomes(Some(0), 2, 4),
     states: 1,
     depth: 0,
     outcomes: 0,
@@ -105,8 +105,8 @@ fn answer(
 /// Whether memory ran out, and no more is said than what was looked at.
 fn is_front(told: Told, whole: Told, least: u32) -> bool {
     match told.verdict {
-        Verdict::NoMemory(depth) => {
-            depth <= least
+        Verdict::NoMemory(safe) => {
+            safe.unwrap_or(0) <= least
                 && 1 <= told.states
                 && told.states <= whole.states
                 && told.outcomes <= whole.outcomes

@@ -63,7 +63,7 @@ const NOWHERE: Asked = Asked {
     ..ANY
 };
 
-static RESTING: [Case; 11] = [
+static RESTING: [Case; 12] = [
     (LEAPS, ANY, LEAPT),
     (
         LEAPS,
@@ -84,13 +84,23 @@ static RESTING: [Case; 11] = [
         STUCK,
     ),
     (LEAPS, Asked { steps: 3, ..FOUR }, STUCK),
-    // That nothing happens in the third step isn't seen in the second one.
+    // That nothing happens in the third step is seen at the limit of two, but not of one.
     (
         LEAPS,
         Asked { steps: 2, ..FOUR },
         Told {
-            verdict: Verdict::SafeTo(2),
             outcomes: 6,
+            ..STUCK
+        },
+    ),
+    (
+        LEAPS,
+        Asked { steps: 1, ..FOUR },
+        Told {
+            verdict: Verdict::SafeTo(1),
+            states: 3,
+            depth: 1,
+            outcomes: 2,
             quiet: 0,
             ..LEAPT
         },

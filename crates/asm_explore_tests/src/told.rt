@@ -9,10 +9,12 @@ pub enum Verdict {
     /// The step that goes wrong.
     Bad(u64, Fault),
     WrongFirst,
-    TooManyStates(u32),
-    /// A depth, and the outcomes of a part and of what is beside it.
-    TooManyOutcomes(u32, usize, usize),
-    NoMemory(u32),
+    /// Up to how many steps it is safe, if any.
+    TooManyStates(Option<u32>),
+    StatesRepeated,
+    /// The same, and the outcomes of a part and of what is beside it.
+    TooManyOutcomes(Option<u32>, usize, usize),
+    NoMemory(Option<u32>),
     /// The step that goes wrong.
     Unwritten(u64, Fault),
 }
@@ -34,11 +36,12 @@ fn verdict_of(finding: &Finding) -> Verdict {
         Finding::SafeTo(depth) => Verdict::SafeTo(*depth),
         Finding::BadStep(bad) => Verdict::Bad(bad.step, bad.fault),
         Finding::WrongFirst => Verdict::WrongFirst,
-        Finding::TooManyStates(depth) => Verdict::TooManyStates(*depth),
-        Finding::TooManyOutcomes { depth, crowd } => {
-            Verdict::TooManyOutcomes(*depth, crowd.first, crowd.others)
+        Finding::TooManyStates(safe) => Verdict::TooManyStates(*safe),
+        Finding::StatesRepeated => Verdict::StatesRepeated,
+        Finding::TooManyOutcomes { safe, crowd } => {
+            Verdict::TooManyOutcomes(*safe, crowd.first, crowd.others)
         }
-        Finding::NoMemory(depth) => Verdict::NoMemory(*depth),
+        Finding::NoMemory(safe) => Verdict::NoMemory(*safe),
         Finding::Unwritten(unwritten) => Verdict::Unwritten(unwritten.step, unwritten.fault),
     }
 }

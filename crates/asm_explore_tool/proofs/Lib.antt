@@ -1,5 +1,5 @@
-pub mod Appending
 mod FilesInTurn
 mod InputOnce
+pub mod NoFiles
 mod OutputBytes
 mod ReportStatuses

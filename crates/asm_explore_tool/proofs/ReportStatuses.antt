@@ -1,7 +1,7 @@
 -- Free. No report has the status of a fault.
 --     of_report        the status of a report
 --     of_answer        of help or the version, too
-use Rattle.std.proofs.Common.{◌≡◌, ℕ, List, Option, inl, inr, arith, subst}
+use Rattle.std.proofs.Common.{◌≡◌, ℕ, List, [], ◌∷◌, Option, inl, inr, arith, refl, subst}
 use Rattle.clap.specs.Walk.{Text}
 use Rattle.asm_meaning.specs.Run.{AtExhausted, AtFault, AtLimit, End}
 use Rattle.asm_explore.specs.declared.exploration_result.Finding.{Finding}
@@ -9,8 +9,9 @@ use Rattle.asm_explore.specs.declared.exploration_result.Finding.TheVariants as 
 use Rattle.asm_random.specs.declared.random_result.RandomFinding.{RandomFinding}
 use Rattle.asm_random.specs.declared.random_result.RandomFinding.TheVariants as random
 use Rattle.asm_explore_all.specs.AllReport as all
+use Rattle.asm_explore_all.specs.MadeFiles.{MadeFile}
 use Rattle.asm_explore_random.specs.RandomReport.{random_status}
-use Rattle.asm_explore_run.specs.RunReport.{IsRunStatus, run_asked, status_of_end}
+use Rattle.asm_explore_run.specs.RunReport.{choices_status, run_asked, status_of_end}
 use Rattle.asm_explore_report.specs.declared.report.Report.{Report}
 use Rattle.asm_explore_words.specs.declared.settings.Task.{Task}
 use Rattle.asm_explore_words.specs.declared.settings.Task.TheVariants as task
@@ -20,15 +21,16 @@ use Rattle.asm_explore_tool.specs.Outputs.{IsAnswer, IsReportOf}
 apart : (status n : ℕ) → status ≡ n → (IsOfFault n → ⊥) → IsOfFault status → ⊥
 apart status n is not fault = not (subst IsOfFault is fault)
 
-of_finding : (found : Finding) → IsOfFault (all.status_of found) → ⊥
-of_finding finding.Closed f = omega (arith, f.0)
-of_finding (finding.SafeTo depth) f = omega (arith, f.0)
-of_finding (finding.BadStep bad) f = omega (arith, f.0)
-of_finding finding.WrongFirst f = omega (arith, f.0)
-of_finding (finding.Unwritten unwritten) f = omega (arith, f.0)
-of_finding (finding.TooManyStates depth) f = omega (arith, f.1)
-of_finding (finding.TooManyOutcomes depth crowd) f = omega (arith, f.1)
-of_finding (finding.NoMemory depth) f = omega (arith, f.1)
+of_finding : (found : Finding) → (found ≡ finding.StatesRepeated → ⊥) → IsOfFault (all.status_of found) → ⊥
+of_finding finding.Closed never f = omega (arith, f.0)
+of_finding (finding.SafeTo depth) never f = omega (arith, f.0)
+of_finding (finding.BadStep bad) never f = omega (arith, f.0)
+of_finding finding.WrongFirst never f = omega (arith, f.0)
+of_finding (finding.Unwritten unwritten) never f = omega (arith, f.0)
+of_finding (finding.TooManyStates safe_to) never f = omega (arith, f.1)
+of_finding finding.StatesRepeated never f = never refl
+of_finding (finding.TooManyOutcomes safe_to crowd) never f = omega (arith, f.1)
+of_finding (finding.NoMemory safe_to) never f = omega (arith, f.1)
 
 of_random : (found : RandomFinding) → IsOfFault (random_status found) → ⊥
 of_random random.Nothing f = omega (arith, f.0)
@@ -36,26 +38,33 @@ of_random (random.Bad number bad) f = omega (arith, f.0)
 of_random random.WrongFirst f = omega (arith, f.0)
 of_random (random.Unwritten unwritten) f = omega (arith, f.0)
 
-of_choices : (end : End) (status : ℕ) → IsRunStatus end status → IsOfFault status → ⊥
-of_choices AtLimit status (inl is) f = omega (arith, is, f.0)
-of_choices AtLimit status (inr is) f = omega (arith, is, f.1)
-of_choices (AtExhausted step q) status is f = omega (arith, is, f.0)
-of_choices (AtFault step U) status is f = omega (arith, is, f.0)
+of_choices : (end : End) (unmet : List (List ℕ)) → IsOfFault (choices_status end unmet) → ⊥
+of_choices AtLimit [] f = omega (arith, f.0)
+of_choices AtLimit (line ∷ more) f = omega (arith, f.1)
+of_choices (AtExhausted step q) unmet f = omega (arith, f.0)
+of_choices (AtFault step U) unmet f = omega (arith, f.0)
 
 of_clash : (end : End) → IsOfFault (status_of_end end) → ⊥
 of_clash AtLimit f = omega (arith, f.0)
 of_clash (AtExhausted step q) f = omega (arith, f.0)
 of_clash (AtFault step U) f = omega (arith, f.0)
 
-module _ (contents : Text → Option (List ℕ)) (input : Option (List ℕ)) where
-  pub of_report : (asked : Task) (report : Report) → IsReportOf contents input asked report → IsOfFault report.status → ⊥
-  of_report (task.All settings) report h = apart report.status _ h.reported.status (of_finding h.reported.answer.finding)
-  of_report (task.Random settings) report h = apart report.status _ h.reported.status (of_random h.reported.answer.finding)
+module _ (contents : Text → Option (List ℕ)) (input : Option (List ℕ)) (before after : Option (List MadeFile)) where
+  pub of_report : (asked : Task) (report : Report) → IsReportOf contents input before after asked report → IsOfFault report.status → ⊥
+  of_report (task.All settings) report h =
+      let is = h.reported.2 in
+      let q = is.explored.asked in
+      let links = is.explored.is_asked.always.links in
+      apart report.status _ is.status
+      (of_finding is.answer.finding (λ same. subst (λ found. all.WordsTell q.checked links q.question.turns found is.printed.words) same is.printed.tell))
+  of_report (task.Random settings) report h = apart report.status _ h.1.reported.status (of_random h.1.reported.answer.finding)
   of_report (task.Choices settings) report h =
-      let end = (run_asked h.reported.tree settings h.reported.script).end in of_choices end report.status h.reported.status
+      let is = h.1.reported in
+      let end = (run_asked is.tree settings is.script).end in apart report.status _ is.status (of_choices end _)
   of_report (task.Clash settings) report h =
-      let end = (run_asked h.reported.tree settings h.reported.script).end in apart report.status (status_of_end end) h.reported.status (of_clash end)
+      let is = h.1.reported in
+      let end = (run_asked is.tree settings is.script).end in apart report.status (status_of_end end) is.status (of_clash end)
 
-  pub of_answer : (IsWritten : List ℕ → Type 0) (words : List Text) (status : ℕ) → IsAnswer contents input IsWritten words status → IsOfFault status → ⊥
+  pub of_answer : (IsWritten : List ℕ → Type 0) (words : List Text) (status : ℕ) → IsAnswer contents input IsWritten before after words status → IsOfFault status → ⊥
   of_answer IsWritten words status (inl output) = apart status output.report.status output.status_is (of_report output.task output.report output.reported)
   of_answer IsWritten words status (inr help) = apart status 0 help.0 (λ f. omega (arith, f.0))

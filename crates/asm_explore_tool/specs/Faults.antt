@@ -14,7 +14,7 @@ use Rattle.asm_files.specs.declared.fault.NoWords.TheVariants as absent
 use Rattle.asm_files.specs.declared.fault.ReadFault.{ReadFault}
 use Rattle.asm_files.specs.declared.fault.ReadFault.TheVariants as unread
 use Rattle.asm_explore_tool.specs.declared.no_answer.NoAnswer.{NoAnswer}
-use Rattle.asm_explore_tool.specs.declared.no_answer.NoAnswer.TheVariants.{Words, NotText, Text, Memory, File, Write, Graph, Unconfirmed}
+use Rattle.asm_explore_tool.specs.declared.no_answer.NoAnswer.TheVariants.{Words, NotText, Text, Memory, File, Write, Graph, QuietScript, Unconfirmed, StatesRepeated}
 
 abbrev pub status_of : NoAnswer → ℕ
 status_of (Text refused) = 2
@@ -22,7 +22,9 @@ status_of Memory = 3
 status_of (File source) = 3
 status_of Write = 3
 status_of (Graph name) = 3
+status_of (QuietScript name) = 3
 status_of Unconfirmed = 3
+status_of StatesRepeated = 3
 status_of (Words error) = 4
 status_of NotText = 4
 
@@ -39,7 +41,9 @@ abbrev pub fault_of_report : Fault → NoAnswer
 fault_of_report (report.Text refused) = Text refused
 fault_of_report report.Memory = Memory
 fault_of_report (report.Graph name) = Graph name
+fault_of_report (report.QuietScript name) = QuietScript name
 fault_of_report report.Unconfirmed = Unconfirmed
+fault_of_report report.StatesRepeated = StatesRepeated
 
 abbrev pub fault_of_no_words : NoWords → NoAnswer
 fault_of_no_words absent.Memory = Memory

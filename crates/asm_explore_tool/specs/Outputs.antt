@@ -2,17 +2,20 @@
 --     AppendsUpTo old new text    known bytes grow by a front of the text, which may be all of it
 --     IsReportOfAll, IsReportOfRandom, IsReportOfRun
 --                                 the report for settings of `all`, of `random`, of one run, of the
---                                 texts that are read for them
---     IsReportOf                  the report for a command with its settings
+--                                 texts that are read for them; the files that are known to be made
+--                                 grow by those that `all` makes
+--     IsReportOf                  the report for a command with its settings; the other commands
+--                                 make no file
 --     IsOutput                    the report for the words: its text is written, and its status is
---                                 this one
+--                                 this one; the files that are known to be made grow by its files
 --     IsHelp                      words are refused, and ask for help or for the version: some text
 --                                 is written
---     IsAnswer                    one of the two
+--     IsAnswer                    one of the two; help makes no file
 --     HasNoReport                 why words that are taken have no report, and what of one is
 --                                 written: nothing, unless the output failed
 --     AreRefused                  why words are refused, and what is written
---     IsExplained                 one of the two says why the status is what it is
+--     IsExplained                 one of the two says why the status is what it is; for refused words
+--                                 no file is made
 use Rattle.std.specs.Prelude.{◌≡◌, ◌⊎◌, ℕ, Bool, List, [], Option, IsTrue, take}
 use Rattle.std.specs.Io.KnownBytes.{Appends, Keeps}
 use Rattle.clap.specs.Kinds.{IsAmong, Kinds}
@@ -24,7 +27,8 @@ use Rattle.asm_explore_tool.specs.GivenTexts.{AreAlwaysGiven, AreGiven, AreRunTe
 use Rattle.asm_explore_tool.specs.declared.no_answer.NoAnswer.{NoAnswer}
 use Rattle.asm_explore_tool.specs.declared.no_answer.NoAnswer.TheVariants as no_answer
 use Rattle.asm_explore_random.specs.RandomReport.{IsRandomReported}
-use Rattle.asm_explore_all.specs.AllReport.{IsReported}
+use Rattle.asm_explore_all.specs.AllReport.{IsReportedBy}
+use Rattle.asm_explore_all.specs.MadeFiles.{MadeFile, Makes}
 use Rattle.asm_explore_run.specs.RunReport.{AreChoicesReported, IsClashReported}
 use Rattle.asm_explore_words.specs.WordsSaid.{AreSaidBehind, AskForHelp, task_refusals}
 use Rattle.asm_explore_texts.specs.declared.conditions.Condition.{Condition}
@@ -42,12 +46,12 @@ AppendsUpTo old new text = (n : ℕ) × Appends old new (take n text)
 -- ---- what words ask for
 
 module _ (contents : Text → Option (List ℕ)) (input : Option (List ℕ)) where
-  pub record IsReportOfAll (settings : Settings) (report : Report) : Type 0 where
+  pub record IsReportOfAll (before after : Option (List MadeFile)) (settings : Settings) (report : Report) : Type 0 where
     pub text : List ℕ
     pub is_text : IsText contents input settings.spec.now text
     pub conditions : Conditions
     pub given : AreGiven contents settings conditions
-    pub reported : IsReported text conditions settings report
+    pub reported : IsReportedBy text conditions settings before after report
 
   pub record IsReportOfRandom (settings : RandomSettings) (report : Report) : Type 0 where
     pub text : List ℕ
@@ -62,28 +66,29 @@ module _ (contents : Text → Option (List ℕ)) (input : Option (List ℕ)) whe
     pub are_texts : AreRunTexts contents input settings text script_text
     pub reported : AreReported text script_text settings report
 
-  abbrev pub IsReportOf : Task → Report → Type 0
-  IsReportOf (All settings) report = IsReportOfAll settings report
-  IsReportOf (Random settings) report = IsReportOfRandom settings report
-  IsReportOf (Choices settings) report = IsReportOfRun AreChoicesReported settings report
-  IsReportOf (Clash settings) report = IsReportOfRun IsClashReported settings report
+  -- of the files that are known to be made, before and after
+  abbrev pub IsReportOf : (before after : Option (List MadeFile)) → Task → Report → Type 0
+  IsReportOf before after (All settings) report = IsReportOfAll before after settings report
+  IsReportOf before after (Random settings) report = Makes before after [] × IsReportOfRandom settings report
+  IsReportOf before after (Choices settings) report = Makes before after [] × IsReportOfRun AreChoicesReported settings report
+  IsReportOf before after (Clash settings) report = Makes before after [] × IsReportOfRun IsClashReported settings report
 
 -- some text is written, which the library that reads the words has for them
 abbrev pub IsHelp : (IsWritten : List ℕ → Type 0) → Kinds → Type 0
 IsHelp IsWritten kinds = AskForHelp kinds × ((text : List ℕ) × IsWritten text)
 
-module _ (contents : Text → Option (List ℕ)) (input : Option (List ℕ)) (IsWritten : List ℕ → Type 0) (words : List Text) (status : ℕ) where
+module _ (contents : Text → Option (List ℕ)) (input : Option (List ℕ)) (IsWritten : List ℕ → Type 0) (before after : Option (List MadeFile)) (words : List Text) (status : ℕ) where
   pub record IsOutput : Type 0 where
     pub taken : task_refusals words ≡ []
     pub task : Task
     pub said : AreSaidBehind words task
     pub report : Report
-    pub reported : IsReportOf contents input task report
+    pub reported : IsReportOf contents input before after task report
     pub status_is : status ≡ report.status
     pub written : IsWritten report.text.items
 
   abbrev pub IsAnswer : Type 0
-  IsAnswer = IsOutput ⊎ ((status ≡ 0) × IsHelp IsWritten (task_refusals words))
+  IsAnswer = IsOutput ⊎ ((status ≡ 0) × Makes before after [] × IsHelp IsWritten (task_refusals words))
 
 -- ---- why it isn't written
 
@@ -94,15 +99,15 @@ module _ (old new : Option (List ℕ)) (has_failed : Bool) where
   AreRefused kinds no_answer.Write = IsTrue has_failed × IsHelp (AppendsUpTo old new) kinds
   AreRefused kinds fault = ⊥
 
-  module _ (contents : Text → Option (List ℕ)) (input : Option (List ℕ)) (words : List Text) where
+  module _ (contents : Text → Option (List ℕ)) (input : Option (List ℕ)) (before after : Option (List MadeFile)) (words : List Text) where
     abbrev pub HasNoReport : NoAnswer → Type 0
     HasNoReport (no_answer.Words error) = ⊥
     HasNoReport no_answer.NotText = ⊥
-    HasNoReport no_answer.Write = IsTrue has_failed × ((status : ℕ) × IsOutput contents input (AppendsUpTo old new) words status)
+    HasNoReport no_answer.Write = IsTrue has_failed × ((status : ℕ) × IsOutput contents input (AppendsUpTo old new) before after words status)
     HasNoReport fault = Keeps old new
 
     abbrev pub Explains : NoAnswer → Type 0
-    Explains fault = ((task_refusals words ≡ []) × HasNoReport fault) ⊎ AreRefused (task_refusals words) fault
+    Explains fault = ((task_refusals words ≡ []) × HasNoReport fault) ⊎ (Makes before after [] × AreRefused (task_refusals words) fault)
 
     pub record IsExplained (status : ℕ) : Type 0 where
       pub fault : NoAnswer

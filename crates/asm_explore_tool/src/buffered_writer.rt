@@ -1,7 +1,7 @@
 //! Text that is buffered on its way to a sink.
 ghost use Rattle.std.specs.Prelude.{◌≡◌, ◌≤◌};
 
-use crate::written;
+use asm_files::whole::write_whole;
 use asm_run::sink::{Sink, SinkFault};
 use std::fmt;
 use std::fmt::Write;
@@ -53,7 +53,7 @@ impl<E: Sink> Write for BufferedWriter<'_, E> {
 
 /// Writes the whole text.
 fn whole<E: Sink>(sink: &mut E, text: &[u8]) -> fmt::Result {
-    match written::whole(sink, text) {
+    match write_whole(sink, text) {
         Ok(()) => Ok(()),
         Err(SinkFault) => Err(fmt::Error),
     }

@@ -24,8 +24,14 @@ fn message<W: Write>(fault: &NoAnswer<'_>, out: &mut W) -> fmt::Result {
         NoAnswer::File(source) => unreadable(*source, out),
         NoAnswer::Write => out.write_str("asm-explore: the answer can't be written\n"),
         NoAnswer::Graph(name) => writeln!(out, "asm-explore: {name}: the graph can't be written"),
+        NoAnswer::QuietScript(name) => {
+            writeln!(out, "asm-explore: {name}: the script can't be written")
+        }
         NoAnswer::Unconfirmed => {
             out.write_str("asm-explore: an error of this program: the script leads to no fault\n")
+        }
+        NoAnswer::StatesRepeated => {
+            out.write_str("asm-explore: an error of this program: a state was reached twice\n")
         }
     }
 }

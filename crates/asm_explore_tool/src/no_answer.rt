@@ -25,8 +25,12 @@ pub enum NoAnswer<'w> {
     Write,
     /// The graph of states can't be written to the file of this name.
     Graph(&'w str),
+    /// The script to the first quiet state can't be written to the file of this name.
+    QuietScript(&'w str),
     /// The run under the script that was found ends otherwise than it was found to.
     Unconfirmed,
+    /// Of the states that were reached two are the same.
+    StatesRepeated,
 }
 
 impl<'w> NoAnswer<'w> {
@@ -37,7 +41,8 @@ impl<'w> NoAnswer<'w> {
         match self {
             NoAnswer::Text(_) => 2,
             NoAnswer::Memory | NoAnswer::File(_) | NoAnswer::Write => 3,
-            NoAnswer::Graph(_) | NoAnswer::Unconfirmed => 3,
+            NoAnswer::Graph(_) | NoAnswer::QuietScript(_) => 3,
+            NoAnswer::Unconfirmed | NoAnswer::StatesRepeated => 3,
             NoAnswer::Words(_) | NoAnswer::NotText => 4,
         }
     }
@@ -78,7 +83,9 @@ impl<'w> From<Fault<'w>> for NoAnswer<'w> {
             Fault::Text(refused) => NoAnswer::Text(refused),
             Fault::Memory => NoAnswer::Memory,
             Fault::Graph(name) => NoAnswer::Graph(name),
+            Fault::QuietScript(name) => NoAnswer::QuietScript(name),
             Fault::Unconfirmed => NoAnswer::Unconfirmed,
+            Fault::StatesRepeated => NoAnswer::StatesRepeated,
         }
     }
 }

@@ -29,14 +29,14 @@ use std::time::Clock;
 /// The report for a command with its settings.
 pub(crate) fn report<'w, R: Threads + Clock + Sync, F: Folder + NewFiles, I: Read + Drop, E: Sink>(
     rt: &R,
-    folder: &F,
+    folder: &mut F,
     alloc: Global,
     task: &Task<'w>,
     input: I,
     lines: &mut ProgressLines<'_, R, E>,
 ) -> Result<Report, NoAnswer<'w>>
     requires { reads_task_twice task.now ≡ false }
-    ensures report { IfOk result (IsReportOf (F.contents folder.now) (I.remaining input) task.now) }
+    ensures report { IfOk result (IsReportOf (F.contents folder.old) (I.remaining input) (F.made folder.old) (F.made folder.new) task.now) }
     ensures none { IfErr result IsOfReport }
 {
     match task {
@@ -92,13 +92,13 @@ fn report_of_clash<'w, R: Threads + Sync, F: Folder, I: Read + Drop>(
 /// The report for settings of `all`.
 fn report_of_all<'w, R: Threads + Sync, F: Folder + NewFiles, I: Read + Drop, W: Watch<Progress>>(
     rt: &R,
-    folder: &F,
+    folder: &mut F,
     alloc: Global,
     settings: &Settings<'w>,
     input: I,
     watch: &mut W,
 ) -> Result<Report, NoAnswer<'w>>
-    ensures report { IfOk result (IsReportOfAll (F.contents folder.now) (I.remaining input) settings.now) }
+    ensures report { IfOk result (IsReportOfAll (F.contents folder.old) (I.remaining input) (F.made folder.old) (F.made folder.new) settings.now) }
     ensures none { IfErr result IsOfReport }
 {
     let spec = settings.spec;

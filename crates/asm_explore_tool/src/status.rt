@@ -35,22 +35,23 @@ pub fn status<
     I: Read + Drop,
     O: Finish,
     E: Sink,
->(rt: &R, folder: &F, words: &[S], input: I, out: &mut O, err: &mut E, is_terminal: bool) -> u8
+>(rt: &R, folder: &mut F, words: &[S], input: I, out: &mut O, err: &mut E, is_terminal: bool) -> u8
     // Words that are taken don't end with 4. Others end with 4, or with 3, or with 0 if they ask
     // for help or for the version.
     ensures taken { task_refusals (map S.text words.entry.now) ≡ [] → result ≢ 4 }
     ensures refused { task_refusals (map S.text words.entry.now) ≢ [] →
         (result ≡ 4) ⊎ ((result ≡ 3) ⊎ ((result ≡ 0) × AskForHelp (task_refusals (map S.text words.entry.now)))) }
     // Neither 2, 3 nor 4: the output grew by the report, or by help or the version, and by nothing
-    // else. Nothing of it is kept back.
+    // else. Nothing of it is kept back. The files that the report is said to make are made, and no
+    // others.
     ensures answered { ¬ (IsOfFault result) →
-        IsAnswer (F.contents folder.now) (I.remaining input) (Appends (O.bytes out.old) (O.bytes out.new)) (map S.text words.entry.now) result }
+        IsAnswer (F.contents folder.old) (I.remaining input) (Appends (O.bytes out.old) (O.bytes out.new)) (F.made folder.old) (F.made folder.new) (map S.text words.entry.now) result }
     ensures finished { ¬ (IsOfFault result) → IsTrue (O.is_finished out.new) }
     ensures quiet { task_refusals (map S.text words.entry.now) ≢ [] → result ≡ 0 → Keeps (E.bytes err.old) (E.bytes err.new) }
     // 2 to 4: a fault with this status says why. Nothing is written then, or a front of it if the
     // output failed.
     ensures explained { IsOfFault result →
-        IsExplained (O.bytes out.old) (O.bytes out.new) (O.has_failed out.new) (F.contents folder.now) (I.remaining input) (map S.text words.entry.now) result }
+        IsExplained (O.bytes out.old) (O.bytes out.new) (O.has_failed out.new) (F.contents folder.old) (I.remaining input) (F.made folder.old) (F.made folder.new) (map S.text words.entry.now) result }
 {
     match answer(rt, folder, words, input, out, err, is_terminal) {
         Ok(status) => status,
@@ -67,6 +68,7 @@ pub fn refusal<E: Sink>(fault: &NoAnswer<'_>, err: &mut E) -> u8
 }
 
 /// Writes what the words ask for, and returns the status of that.
+#[tactic(auto, using(crate::proofs::NoFiles::makes_none))]
 fn answer<
     'w,
     R: Threads + Clock + Sync + AllocGlobal,
@@ -77,17 +79,17 @@ fn answer<
     E: Sink,
 >(
     rt: &R,
-    folder: &F,
+    folder: &mut F,
     words: &'w [S],
     input: I,
     out: &mut O,
     err: &mut E,
     is_terminal: bool,
 ) -> Result<u8, NoAnswer<'w>>
-    ensures answered { IfOk result (IsAnswer (F.contents folder.now) (I.remaining input) (Appends (O.bytes out.old) (O.bytes out.new)) (map S.text words.entry.now)) }
+    ensures answered { IfOk result (IsAnswer (F.contents folder.old) (I.remaining input) (Appends (O.bytes out.old) (O.bytes out.new)) (F.made folder.old) (F.made folder.new) (map S.text words.entry.now)) }
     ensures finished { IfOk result (λ _. IsTrue (O.is_finished out.new)) }
     ensures quiet { task_refusals (map S.text words.entry.now) ≢ [] → Keeps (E.bytes err.old) (E.bytes err.new) }
-    ensures explained { IfErr result (Explains (O.bytes out.old) (O.bytes out.new) (O.has_failed out.new) (F.contents folder.now) (I.remaining input) (map S.text words.entry.now)) }
+    ensures explained { IfErr result (Explains (O.bytes out.old) (O.bytes out.new) (O.has_failed out.new) (F.contents folder.old) (I.remaining input) (F.made folder.old) (F.made folder.new) (map S.text words.entry.now)) }
 {
     match settings(rt.alloc(), words) {
         Ok(task) => {

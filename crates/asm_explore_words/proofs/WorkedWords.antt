@@ -23,6 +23,10 @@ choices_are_taken : task_refusals (codes "choices" ∷ codes "-" ∷ codes "--sc
 unfolding run_command clap_on_literals
 choices_are_taken = refl
 
+two_files_are_taken : task_refusals (codes "all" ∷ codes "--dot" ∷ codes "g" ∷ codes "--quiet" ∷ codes "s" ∷ one) ≡ []
+unfolding command clap_on_literals
+two_files_are_taken = refl
+
 -- ---- what is refused
 
 no_words : task_refusals [] ≡ MissingSubcommand ∷ []
@@ -48,6 +52,10 @@ no_text = refl
 both_are_input : task_refusals (codes "clash" ∷ codes "-" ∷ codes "--script" ∷ codes "-" ∷ []) ≡ ArgumentConflict ∷ []
 unfolding run_command clap_on_literals
 both_are_input = refl
+
+both_are_one_file : task_refusals (codes "all" ∷ codes "--dot" ∷ codes "f" ∷ codes "--quiet" ∷ codes "f" ∷ one) ≡ ArgumentConflict ∷ []
+unfolding command clap_on_literals
+both_are_one_file = refl
 
 -- ---- what is asked for
 

@@ -1,8 +1,8 @@
 -- Definition. The words after a command, in the terms of the library that reads them.
 --     command, refusals words           after `all`: it has a version; its arguments: the text's
 --                                       file, an option for each limit and condition and for the
---                                       graph's file, and two flags. The kinds of what is wrong
---                                       with the words, none if they are taken
+--                                       graph's and the script's file, and two flags. The kinds of
+--                                       what is wrong with the words, none if they are taken
 --     random_command, random_refusals words
 --                                       after `random`: the text's file, an option for each limit
 --                                       and condition and for the seed, and two flags
@@ -69,6 +69,7 @@ command = record {
         ∷ number outcomes_option
         ∷ number workers_option
         ∷ option (codes "dot")
+        ∷ option (codes "quiet")
         ∷ flag (codes "trace")
         ∷ flag (codes "progress")
         ∷ [];

@@ -1,12 +1,13 @@
 -- Definition. What words say.
---     AreSaid words settings        the settings are those that the words after `all` give
+--     AreSaid words settings        the settings are those that the words after `all` give: the graph
+--                                   and the script aren't both written to one file
 --     AreRandomSaid words settings  the same after `random`
 --     AreRunSaid words settings     the same after `choices` and `clash`: the text and the script
 --                                   aren't both standard input
 --     AreSaidBehind words task      the first word names the command, and the others give its
 --                                   settings
---     one_run_refusals words        the kinds of what is wrong with the words after `choices` and
---                                   `clash`
+--     all_refusals words            the kinds of what is wrong with the words after `all`
+--     one_run_refusals words        the same after `choices` and `clash`
 --     task_refusals words           the kinds of what is wrong with the command and the words behind
 --                                   it, none if they are taken
 --     AskForHelp kinds              words of these kinds ask for help or for the version
@@ -85,9 +86,13 @@ pub record HasUnsigned (found : Found) (name : Text) : Type 0 where
   pub is_handed : one_text found name ≡ Some text
   pub is_within : IsUnsignedIn 0 most_unsigned text
 
+-- the rows of the words after `all`
+abbrev pub all_rows : List Text → List Row
+all_rows words = matches_of command words
+
 -- what a parse of the words finds
 pub record AreParsed (words : List Text) (matches : ArgMatches) : Type 0 where
-  pub rows : rows_of (found_of matches) ≡ matches_of command words
+  pub rows : rows_of (found_of matches) ≡ all_rows words
   pub spec : is_some (first_value (found_of matches) (codes "spec")) ≡ true
   pub numbers : HaveNumbers (found_of matches) number_options
 
@@ -131,11 +136,25 @@ pub record AreRead (rows : List Row) (settings : Settings) : Type 0 where
   pub when_quiet : option_map (λ text. text.now) settings.when_quiet ≡ first_of (codes "deadlock-unless") rows
   pub within : option_map (λ text. text.now) settings.within ≡ first_of (codes "within") rows
   pub dot : option_map (λ text. text.now) settings.dot ≡ first_of (codes "dot") rows
+  pub quiet : option_map (λ text. text.now) settings.quiet ≡ first_of (codes "quiet") rows
   pub trace : settings.trace ≡ is_yes (first_of (codes "trace") rows)
   pub progress : settings.progress ≡ is_yes (first_of (codes "progress") rows)
 
+-- both name the same file
+abbrev pub is_one_file : (name other : Option Text) → Bool
+is_one_file None other = false
+is_one_file (Some name) None = false
+is_one_file (Some name) (Some other) = bytes_eq name other
+
+-- the words name one file for the graph and for the script
+abbrev pub are_one_file : List Text → Bool
+are_one_file words = is_one_file (first_of (codes "dot") (all_rows words)) (first_of (codes "quiet") (all_rows words))
+
+abbrev pub AreTaken : List Text → Type 0
+AreTaken words = (refusals words ≡ []) × (are_one_file words ≡ false)
+
 abbrev pub AreSaid : List Text → Settings → Type 0
-AreSaid words settings = AreRead (matches_of command words) settings
+AreSaid words settings = AreTaken words × AreRead (all_rows words) settings
 
 pub record AreRandomRead (rows : List Row) (settings : RandomSettings) : Type 0 where
   pub spec : first_of (codes "spec") rows ≡ Some settings.spec.now
@@ -185,6 +204,9 @@ abbrev pub IsRefusal : Kinds → WordFault → Type 0
 IsRefusal kinds Memory = ⊤
 IsRefusal kinds (Words error) = IsAmong (kind_of error) kinds
 
+abbrev pub all_refusals : List Text → Kinds
+all_refusals words = kinds.or_else (refusals words) (cond (are_one_file words) (ArgumentConflict ∷ []) [])
+
 abbrev pub one_run_refusals : List Text → Kinds
 one_run_refusals words = kinds.or_else (run_refusals words) (cond (are_both_input words) (ArgumentConflict ∷ []) [])
 
@@ -200,7 +222,7 @@ IsOfRun command = (command ≡ codes "choices") ⊎ (command ≡ codes "clash")
 
 abbrev pub AreSaidBehind : List Text → Task → Type 0
 AreSaidBehind [] task = ⊥
-AreSaidBehind (command ∷ words) (All settings) = (command ≡ codes "all") × (refusals words ≡ []) × AreSaid words settings
+AreSaidBehind (command ∷ words) (All settings) = (command ≡ codes "all") × AreSaid words settings
 AreSaidBehind (command ∷ words) (Random settings) = (command ≡ codes "random") × (random_refusals words ≡ []) × AreRandomSaid words settings
 AreSaidBehind (command ∷ words) (Choices settings) = (command ≡ codes "choices") × AreRunSaid words settings
 AreSaidBehind (command ∷ words) (Clash settings) = (command ≡ codes "clash") × AreRunSaid words settings
@@ -208,7 +230,7 @@ AreSaidBehind (command ∷ words) (Clash settings) = (command ≡ codes "clash")
 -- the kinds of what is wrong with the words after this command; `words` are all words
 abbrev pub refusals_behind : (command : Text) → (rest words : List Text) → Kinds
 refusals_behind command rest words =
-    cond (bytes_eq command (codes "all")) (refusals rest)
+    cond (bytes_eq command (codes "all")) (all_refusals rest)
     (cond (bytes_eq command (codes "random")) (random_refusals rest)
     (cond (bytes_eq command (codes "choices") || bytes_eq command (codes "clash")) (one_run_refusals rest)
     (command_refusals words)))

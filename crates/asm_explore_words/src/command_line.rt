@@ -8,16 +8,16 @@ ghost use Rattle.clap.specs.declared.error.kind.ErrorKind.TheVariants.{ArgumentC
 ghost use Rattle.asm_arguments.specs.Numbers.{HaveNumbers};
 ghost use Rattle.asm_explore_words.specs.CommandLine as line;
 ghost use Rattle.asm_explore_words.specs.CommandLine.{command_refusals, named, random_refusals, refusals, run_refusals};
-ghost use Rattle.asm_explore_words.specs.WordsSaid.{AreParsed, AreRead, AreRunParsed, AreRunRead, AreRunSaid, AreSaid, AreSaidBehind, IsRefusal, are_in_range, are_run_in_range, is_task_in_range, number_options, one_run_refusals, run_number_options, run_rows, task_refusals};
+ghost use Rattle.asm_explore_words.specs.WordsSaid.{AreParsed, AreRead, AreRunParsed, AreRunRead, AreRunSaid, AreSaidBehind, IsRefusal, all_refusals, all_rows, are_in_range, are_run_in_range, is_task_in_range, number_options, one_run_refusals, run_number_options, run_rows, task_refusals};
 
 use crate::arguments::{is_set, texts_of};
 use crate::commands::{Argument, described, with_arguments};
 use crate::help;
 use crate::number_options::{OUTCOMES, RUN_STEPS, STATES, STEPS, TURNS, WORKERS};
 use crate::random_words::{random, random_settings};
-use crate::settings::{RunSettings, Settings, Task, WordFault, is_standard_input};
+use crate::settings::{RunSettings, Settings, Task, WordFault, is_same_file, is_standard_input};
 use crate::text_options::{
-    ALWAYS, ALWAYS_FILE, DEADLOCK_UNLESS, DOT, PROGRESS, SCRIPT, TRACE, WITHIN,
+    ALWAYS, ALWAYS_FILE, DEADLOCK_UNLESS, DOT, PROGRESS, QUIET, SCRIPT, TRACE, WITHIN,
 };
 use asm_arguments::numbers::number_of;
 use clap::error::ErrorKind;
@@ -44,7 +44,7 @@ const CALLED_CHOICES: &str = "asm-explore choices";
 const CALLED_CLASH: &str = "asm-explore clash";
 
 /// The arguments of `all`.
-static ALL_ARGUMENTS: [Argument; 13] = [
+static ALL_ARGUMENTS: [Argument; 14] = [
     Argument::Specification,
     Argument::Number(STEPS),
     Argument::Number(TURNS),
@@ -56,6 +56,7 @@ static ALL_ARGUMENTS: [Argument; 13] = [
     Argument::Number(OUTCOMES),
     Argument::Number(WORKERS),
     DOT,
+    QUIET,
     TRACE,
     PROGRESS,
 ];
@@ -96,10 +97,35 @@ pub fn settings<'w, S: AsStr>(alloc: Global, words: &'w [S]) -> Result<Task<'w>,
 fn all_task<'w, S: AsStr>(alloc: Global, words: &'w [S]) -> Result<Task<'w>, WordFault>
     ensures in_range { IfOk result (λ task. IsTrue (is_task_in_range task)) }
     ensures said { IfOk result (AreSaidBehind (codes "all" ∷ map S.text words.entry.now)) }
-    ensures refused { IfErr result (IsRefusal (refusals (map S.text words.entry.now))) }
+    ensures refused { IfErr result (IsRefusal (all_refusals (map S.text words.entry.now))) }
 {
     let settings = all_settings(alloc, words)?;
+    if is_same_file(settings.dot, settings.quiet) {
+        drop(settings);
+        return Err(both_are_one_file(alloc));
+    }
     Ok(Task::All(settings))
+}
+
+/// The fault of words that name one file for the graph and for the script.
+fn both_are_one_file(alloc: Global) -> WordFault
+    ensures { IsRefusal (ArgumentConflict ∷ []) result }
+{
+    match one_file_error(alloc) {
+        Ok(error) => error.into(),
+        Err(error) => error.into(),
+    }
+}
+
+/// What is to be said if the graph and the script are both to be written to one file.
+fn one_file_error(alloc: Global) -> Result<Error, Error>
+    ensures conflict { IfOk result (λ error. kind_of error ≡ ArgumentConflict) }
+    ensures memory { IfErr result (λ error. kind_of error ≡ OutOfMemory) }
+{
+    let mut command = all(alloc)?;
+    let error = command.error(ErrorKind::ArgumentConflict, help::ONE_FILE);
+    drop(command);
+    Ok(error?)
 }
 
 /// What the words after `random` ask for.
@@ -112,11 +138,11 @@ fn random_task<'w, S: AsStr>(alloc: Global, words: &'w [S]) -> Result<Task<'w>, 
     Ok(Task::Random(settings))
 }
 
-/// The settings that the words after `all` give.
+/// The same settings, whether or not the graph and the script are both to be written to one file.
 fn all_settings<'w, S: AsStr>(alloc: Global, words: &'w [S]) -> Result<Settings<'w>, Error>
     ensures in_range { IfOk result (λ s. IsTrue (are_in_range s)) }
     ensures taken { IfOk result (λ _. refusals (map S.text words.entry.now) ≡ []) }
-    ensures said { IfOk result (AreSaid (map S.text words.entry.now)) }
+    ensures read { IfOk result (AreRead (all_rows (map S.text words.entry.now))) }
     ensures refused { IfErr result (HasKind (refusals (map S.text words.entry.now))) }
 {
     let given = given(alloc, words)?;
@@ -144,6 +170,7 @@ fn all_read<'w>(alloc: Global, given: &ArgMatches<'w>) -> Result<Settings<'w>, A
         within: given.get_str("within"),
         workers: number_of(given, WORKERS),
         dot: given.get_str("dot"),
+        quiet: given.get_str("quiet"),
         trace: is_set(given, "trace"),
         progress: is_set(given, "progress"),
     })

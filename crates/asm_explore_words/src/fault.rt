@@ -58,8 +58,12 @@ pub enum Fault<'w> {
     Memory,
     /// The graph of states can't be written to the file of this name.
     Graph(&'w str),
+    /// The script to the first quiet state can't be written to the file of this name.
+    QuietScript(&'w str),
     /// The run under the script that was found ends otherwise than it was found to.
     Unconfirmed,
+    /// Of the states that were reached two are the same.
+    StatesRepeated,
 }
 
 impl<'w> From<AllocError> for Fault<'w> {

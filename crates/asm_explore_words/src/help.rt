@@ -37,6 +37,11 @@ pub const SEED: &str = "Draw by this seed; another one draws other runs: 0 to 18
 
 pub const DOT: &str = "Write the graph of at most 2000 states to this file, for Graphviz";
 
+pub const QUIET: &str =
+    "Write a script to a first state that no choice of the next step changes to this file";
+
+pub const ONE_FILE: &str = "the graph and the script can't both be written to one file";
+
 pub const TRACE: &str = "Show the trace of the run to a fault, before its script";
 
 pub const PROGRESS: &str = "Report progress on standard error; the default if that is a terminal";
@@ -111,7 +116,7 @@ derived function without parameters. If it begins with a minus, write an equals 
 The output is a script: each line is `STEP PATH NUMBER`, or a comment, which begins with `# `. The
 first line says what was found:
   closed                        no run has a fault, of however many steps
-  safe up to N steps            no run of at most N steps has a fault
+  safe up to N steps            no run of at most N steps has a fault, nor comes to a deadlock
   fault after step N: condition K is false
                                 after step N of the run under the script the Kth condition isn't
                                 true: it is false, or has another value; the conditions of --always
@@ -122,13 +127,15 @@ first line says what was found:
   too many states, safe up to N steps
   too many outcomes, safe up to N steps
   too much memory, safe up to N steps
-                                the search ended early; no run of at most N steps has a fault
+                                the search ended early; no run of at most N steps has a fault, nor comes
+                                to a deadlock; if even the first state may be one, no N is named
 If there is a fault, the script leads to it, and no run of fewer steps has one. Further comments show
 the conditions, the faults that were looked for, how many states were reached, how many steps lead from
 one to another, how many steps lead to the farthest state (depth), how many outcomes a step has at most
-(widest), and how many states no choice of the next step changes (quiet). The last comment is a call of
-asm that makes the run, where THIS is a file that has the whole output. With --trace the trace of that
-run follows.
+(widest), and how many states no choice of the next step changes (quiet). With --quiet FILE that line
+says, too, that a script is written to the file: `asm --script FILE` comes to such a state by it, and
+no run comes to one by fewer steps. The last comment is a call of asm that makes the run, where THIS is
+a file that has the whole output. With --trace the trace of that run follows.
 
 Status:
   0  no fault was found; or help or the version was asked for

@@ -1,6 +1,6 @@
 //! What the program is asked to do.
-ghost use Rattle.std.specs.Prelude.{◌≡◌, option_map};
-ghost use Rattle.asm_explore_words.specs.WordsSaid.{IsFaultOf, is_input};
+ghost use Rattle.std.specs.Prelude.{◌≡◌, Some, option_map};
+ghost use Rattle.asm_explore_words.specs.WordsSaid.{IsFaultOf, is_input, is_one_file};
 ghost use Rattle.asm_explore_words.specs.declared.settings.WordFault.TheVariants.{Memory};
 
 use clap::Error;
@@ -45,6 +45,8 @@ pub struct Settings<'w> {
     pub workers: u32,
     /// The name of the file to which the graph of states is written, if there is one.
     pub dot: Option<&'w str>,
+    /// The name of the file to which a script to the first quiet state is written, if there is one.
+    pub quiet: Option<&'w str>,
     /// Whether the trace of the run that is found is shown.
     pub trace: bool,
     /// Whether lines tell how far it is, on standard error.
@@ -112,6 +114,26 @@ impl From<Error> for WordFault {
             ErrorKind::OutOfMemory => WordFault::Memory,
             _ => WordFault::Words(error),
         }
+    }
+}
+
+/// Whether both name the same file.
+pub(crate) fn is_same_file(one: Option<&str>, other: Option<&str>) -> bool
+    ensures { result ≡ is_one_file (option_map (λ text. text.now) one.entry) (option_map (λ text. text.now) other.entry) }
+{
+    match one {
+        Some(one) => is_named(one, other),
+        None => false,
+    }
+}
+
+/// Whether a file that may be named has this name.
+fn is_named(name: &str, file: Option<&str>) -> bool
+    ensures { result ≡ is_one_file (Some name.now) (option_map (λ text. text.now) file.entry) }
+{
+    match file {
+        Some(file) => name == file,
+        None => false,
     }
 }
 

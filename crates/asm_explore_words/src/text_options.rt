@@ -37,6 +37,13 @@ pub(crate) const DOT: Argument = Argument::Text {
     help: help::DOT,
 };
 
+/// Of `Settings::quiet`.
+pub(crate) const QUIET: Argument = Argument::Text {
+    name: "quiet",
+    shown: "FILE",
+    help: help::QUIET,
+};
+
 /// Of `RunSettings::script`.
 pub(crate) const SCRIPT: Argument = Argument::Text {
     name: "script",

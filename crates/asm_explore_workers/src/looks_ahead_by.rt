@@ -2,7 +2,7 @@
 ghost use Rattle.asm_explore.specs.code.StepsAhead.{AreAhead};
 ghost use Rattle.asm_explore_workers.specs.code.Lists.{LooksAtThem, TakesStates};
 
-use asm_explore::{Index, Listed, Machine, Nodes, StepAhead};
+use asm_explore::{Index, Listed, Machine, Nodes, SearchError, StepAhead};
 use asm_state::signature::Signature;
 use asm_state::state::State;
 use std::alloc::{AllocError, Global};
@@ -53,6 +53,10 @@ impl<'a, M: Machine, F: Fn(Global, &[State], &Nodes, &Index) -> MaybeSteps> Mach
 
     fn outcomes(&self, alloc: Global, state: &State) -> Listed {
         self.machine.outcomes(alloc, state)
+    }
+
+    fn is_quiet(&self, alloc: Global, state: &State) -> Result<bool, SearchError> {
+        self.machine.is_quiet(alloc, state)
     }
 
     fn ahead(

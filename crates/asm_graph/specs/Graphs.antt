@@ -13,9 +13,11 @@
 --     IsNode n             a run of at most as many steps as the node is deep comes to its state,
 --                          and its marks are right
 --     AreApart xs          no two of these are the same
+--     LeadsTo i step       one of the edges of a step leads to the node with this number
 --     ComesFrom i n        an edge leads to the node with this number, from one that is one step
 --                          less deep
 --     AreFound nodes       each but the first does
+--     DepthsRise nodes     no node is less deep than one before it
 --     IsCrowded A          the state is that of a node whose step has too many outcomes to be shown
 --     ComesTo script k A   the run of `k` steps under the script comes to the state
 --     PassesCrowd          before its last step a run passes a crowded state

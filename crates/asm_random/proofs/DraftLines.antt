@@ -3,6 +3,7 @@
 --     picked_before    before the first of some steps nothing
 --     picked_from      in one of some steps the number at the path
 --     picked_behind    after the last of them nothing
+--     picked_pushed    one step more says nothing of those before it
 --     or_nothing       what stands for no step in particular is nothing
 --     indexed          what is at an index
 use Rattle.std.proofs.Common.{◌≡◌, ℕ, zero, suc, ◌+◌, ◌<◌, ◌&&◌, Bool, true, false, cond, nat_eq, List, [], ◌∷◌, ◌++◌, Option, None, Some, refl, sym, ap, ◌∙◌, arith, Vec, Global, slice_get, get_or, length, ◌≤◌}
@@ -108,6 +109,16 @@ picked_behind s (suc k) p (n ∷ ms) out =
     let up : s < suc s + k = omega arith in
     let less : length ms ≤ k = omega (arith, out) in
     ap (λ step. exact_choice (lines_from s (n ∷ ms)) step p) next ∙ (others_of s (suc s + k) p n ms up ∙ picked_behind (suc s) k p ms less)
+
+-- before one more step
+pub picked_pushed : (s step : ℕ) (p : List ℕ) (ms : List (BTreeMap (Vec ℕ Global) ℕ)) (m : BTreeMap (Vec ℕ Global) ℕ) → step < s + length ms
+    → exact_choice (lines_from s (ms ++ m ∷ [])) step p ≡ exact_choice (lines_from s ms) step p
+picked_pushed s step p [] m low = picked_before s step p (m ∷ []) (omega (arith, low))
+picked_pushed s step p (n ∷ ms) m low =
+    let less : step < suc s + length ms = omega (arith, low) in
+    behind (lines_in s n.entries) (lines_from (suc s) (ms ++ m ∷ [])) step p
+    ∙ ap (option_or (exact_choice (lines_in s n.entries) step p)) (picked_pushed (suc s) step p ms m less)
+    ∙ sym (behind (lines_in s n.entries) (lines_from (suc s) ms) step p)
 
 -- the map at a place, as it is indexed
 pub indexed : {X : Type 0} (xs : List X) (k : ℕ) (x : X) → k < length xs → x ≡ get_or xs k x → slice_get xs k ≡ Some x

@@ -1,5 +1,10 @@
+mod BareViews
 mod DraftLines
+mod DraftRuns
+mod DraftTexts
 mod Endings
 mod FirstFaults
 mod OneStep
-mod BareViews
+mod RightRuns
+mod SameRuns
+mod Shortened

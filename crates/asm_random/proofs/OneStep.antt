@@ -32,8 +32,8 @@ module _ (specification : Specification) (turns : ℕ) (script : Script) (step :
   abbrev outcome : Outcome
   outcome = does specification.program turns script step A nothing_bound [] specification.main
 
-  pub is_exhausted : (right : State → Bool) (q : Path) → outcome.result ≡ Exhausted q → GoesWrong specification turns script right step (state_of shape contents) fault.Exhausted
-  is_exhausted right q is = (q, ap (yields specification turns script step) (sym shows) ∙ is)
+  pub is_exhausted : (right : State → Bool) (dead : State → Type 0) (q : Path) → outcome.result ≡ Exhausted q → GoesWrong specification turns script right dead step (state_of shape contents) fault.Exhausted
+  is_exhausted right dead q is = (q, ap (yields specification turns script step) (sym shows) ∙ is)
 
   module _ (set : SummaryRanges) (instances : ℕ) (formed : IsSet shape outcome set instances) (found : Option NumberedFault) where
     pub leads_on : (next : List Value) → is_some found ≡ false → IfNone found ((V : UpdateSet) → Stands shape set V → IsConsistent V)
@@ -44,8 +44,8 @@ module _ (specification : Specification) (turns : ℕ) (script : Script) (step :
         let good = no_fault_found shape set U found none consistent formed.stands in
         (U, ap (yields specification turns script step) (sym shows) ∙ formed.gives, good, fires U formed.stands good)
 
-    pub is_faulty : (right : State → Bool) → is_some found ≡ true → IfSome found (λ f. (V : UpdateSet) → Stands shape set V → IsFirstFault V (fault_of shape f))
-        → GoesWrong specification turns script right step (state_of shape contents) fault.Inconsistent
-    is_faulty right some first =
+    pub is_faulty : (right : State → Bool) (dead : State → Type 0) → is_some found ≡ true → IfSome found (λ f. (V : UpdateSet) → Stands shape set V → IsFirstFault V (fault_of shape f))
+        → GoesWrong specification turns script right dead step (state_of shape contents) fault.Inconsistent
+    is_faulty right dead some first =
         let U = formed.set in
         (U, ap (yields specification turns script step) (sym shows) ∙ formed.gives, fault_found shape set U found some first formed.stands)

@@ -1,8 +1,14 @@
 -- Definition. What a result claims of random runs.
 --     IsBadDraft run        the run under the draft goes wrong
 --     IsBadScript bad       the text is a script, under which the run goes wrong
---     Claims                what each finding says: of what was not found nothing
-use Rattle.std.specs.Prelude.{◌≡◌, ℕ, Bool, false}
+--     IsUnwrittenRun        the run under a script goes wrong, and the lines of the choices that it
+--                           makes are too long for a script
+--     Claims                what each finding says of the run that goes wrong, if there is one
+--     IsLast                the run with this number is the last one that was made, of as many as
+--                           are asked for, and the runs before it are fine
+--     Counts                how many runs and steps were made: without a bad run as many as are
+--                           asked for, all of which are fine
+use Rattle.std.specs.Prelude.{◌≡◌, ◌+◌, ◌≤◌, ℕ, suc, Bool, false}
 use Rattle.std.specs.String.{string_bytes}
 use Rattle.asm_state.specs.Location.{State}
 use Rattle.asm_reader.specs.code.ExactLines.{exactly}
@@ -10,27 +16,52 @@ use Rattle.asm_reader.specs.ScriptLines.{Script}
 use Rattle.asm_reader.specs.ScriptText.{IsScript}
 use Rattle.asm_meaning.specs.Run.{Specification}
 use Rattle.asm_explore.specs.declared.exploration_result.BadRun.{BadRun}
+use Rattle.asm_explore.specs.declared.exploration_result.Unwritten.{Unwritten}
 use Rattle.asm_explore.specs.declared.fault.Fault.{Fault}
 use Rattle.asm_random.specs.declared.random_result.RandomFinding.{RandomFinding}
 use Rattle.asm_random.specs.declared.random_result.RandomFinding.TheVariants as finding
 use Rattle.asm_random.specs.declared.bad_draft.BadDraft.{BadDraft}
-use Rattle.asm_random.specs.Drafts.{draft_lines}
 use Rattle.asm_random.specs.BadDrafts.{IsWrongUnder}
+use Rattle.asm_random.specs.ChosenLines.{AreTooLong, chosen_lines}
+use Rattle.asm_random.specs.Drafts.{draft_lines}
+use Rattle.asm_random.specs.FineRuns.{AreFine}
 
 module _ (specification : Specification) (turns steps : ℕ) (right : State → Bool) where
-  abbrev IsWrong : Script → (step : ℕ) → Fault → Type 0
-  IsWrong = IsWrongUnder specification turns steps right
+  module _ (rests : State → Bool) where
+    abbrev IsWrong : Script → (step : ℕ) → Fault → Type 0
+    IsWrong = IsWrongUnder specification turns steps right rests
 
-  abbrev pub IsBadDraft : BadDraft → Type 0
-  IsBadDraft r = IsWrong (exactly (draft_lines r.draft)) r.wrong.step r.wrong.fault
+    abbrev pub IsBadDraft : BadDraft → Type 0
+    IsBadDraft r = IsWrong (exactly (draft_lines r.draft)) r.wrong.step r.wrong.fault
 
-  pub record IsBadScript (bad : BadRun) : Type 0 where
-    pub script : Script
-    pub spelled : IsScript (string_bytes bad.script) script
-    pub wrong : IsWrong script bad.step bad.fault
+    pub record IsBadScript (bad : BadRun) : Type 0 where
+      pub script : Script
+      pub spelled : IsScript (string_bytes bad.script) script
+      pub wrong : IsWrong script bad.step bad.fault
 
-  abbrev pub Claims : RandomFinding → Type 0
-  Claims finding.Nothing = Unit {0}
-  Claims (finding.Bad number bad) = IsBadScript bad
-  Claims finding.WrongFirst = right specification.initial ≡ false
-  Claims (finding.Unwritten unwritten) = (script : Script) × IsWrong script unwritten.step unwritten.fault
+    pub record IsUnwrittenRun (unwritten : Unwritten) : Type 0 where
+      pub script : Script
+      pub wrong : IsWrong script unwritten.step unwritten.fault
+      pub long : AreTooLong (chosen_lines specification turns script unwritten.step)
+
+    abbrev pub Claims : RandomFinding → Type 0
+    Claims finding.Nothing = Unit {0}
+    Claims (finding.Bad number bad) = IsBadScript bad
+    Claims finding.WrongFirst = right specification.initial ≡ false
+    Claims (finding.Unwritten unwritten) = IsUnwrittenRun unwritten
+
+  -- runs have numbers from 0
+  pub record IsLast (asked runs total number : ℕ) : Type 0 where
+    pub count : runs ≡ suc number
+    pub limited : runs ≤ asked
+    pub before : ℕ
+    pub last : ℕ
+    pub few : last ≤ steps
+    pub sum : total ≡ before + last
+    pub fine : AreFine specification turns steps right number before
+
+  abbrev pub Counts : (asked runs total : ℕ) → RandomFinding → Type 0
+  Counts asked runs total finding.Nothing = (runs ≡ asked) × AreFine specification turns steps right runs total
+  Counts asked runs total (finding.Bad number bad) = IsLast asked runs total number
+  Counts asked runs total finding.WrongFirst = (runs ≡ 0) × (total ≡ 0)
+  Counts asked runs total (finding.Unwritten unwritten) = (number : ℕ) × IsLast asked runs total number

@@ -1,6 +1,7 @@
 //! Runs that go wrong.
-ghost use Rattle.std.specs.Prelude.{◌≤◌, ℕ, IfOk, IfSome};
-ghost use Rattle.asm_explore.specs.code.ResolvedConditions.{IsSpecified};
+ghost use Rattle.std.specs.Prelude.{◌≤◌, ℕ, IfNone, IfOk, IfSome};
+ghost use Rattle.asm_random.specs.code.DraftSteps.{IsFineDraft};
+ghost use Rattle.asm_random.specs.code.ResolvedRuns.{CanRun};
 ghost use Rattle.asm_random.specs.code.ShorterRuns.{IsWrongFor};
 
 use crate::bad_end::{BadEnd, wrong_under};
@@ -23,8 +24,9 @@ pub(crate) fn wrong_run(
     draft: Draft,
     steps: u32,
 ) -> Result<Option<BadDraft>, AllocError>
-    requires { IsSpecified specified.now }
-    ensures { (most : ℕ) → steps ≤ most → IfOk result (λ found. IfSome found (IsWrongFor specified.now most)) }
+    requires { CanRun specified.now }
+    ensures wrong { (most : ℕ) → steps ≤ most → IfOk result (λ found. IfSome found (IsWrongFor specified.now most)) }
+    ensures fine { IfOk result (λ found. IfNone found (IsFineDraft specified.now steps draft steps)) }
 {
     match wrong_under(alloc, specified, &draft, steps)? {
         Some(wrong) => Ok(Some(BadDraft { draft, wrong })),

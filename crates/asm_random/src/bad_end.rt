@@ -1,17 +1,16 @@
 //! Runs under a script.
-ghost use Rattle.std.specs.Prelude.{IfOk, IfSome};
-ghost use Rattle.asm_syntax.specs.code.Views.{spec_of};
-ghost use Rattle.asm_check.specs.Shapes.{shape_of};
-ghost use Rattle.asm_meaning.specs.Declarations.{specification_of};
-ghost use Rattle.asm_explore.specs.code.ResolvedConditions.{IsSpecified, holds_in};
+ghost use Rattle.std.specs.Prelude.{◌≡◌, IfNone, IfOk, IfSome};
 ghost use Rattle.asm_random.specs.BadDrafts.{IsWrongUnder};
+ghost use Rattle.asm_random.specs.FineRuns.{IsFineRun};
+ghost use Rattle.asm_random.specs.code.FaultKinds.{is_deadlock};
+ghost use Rattle.asm_random.specs.code.ResolvedRuns.{CanRun, rests_in, right_in, specification_in};
 
+use crate::position::Position;
 use crate::stepping::step_from;
 use asm_explore::{Fault, ResolvedQuestion};
 use asm_meaning::Choices;
 use asm_reader::Picks;
 use asm_state::laws::test_laws;
-use asm_state::state::State;
 use std::alloc::{AllocError, Global};
 
 /// How a run goes wrong.
@@ -22,6 +21,18 @@ pub(crate) struct BadEnd {
     pub(crate) fault: Fault,
 }
 
+impl BadEnd {
+    /// Whether it ends in a deadlock.
+    pub(crate) fn is_deadlock(self) -> bool
+        ensures { result ≡ is_deadlock self.fault }
+    {
+        match self.fault {
+            Fault::Deadlock => true,
+            Fault::Exhausted | Fault::Inconsistent | Fault::Wrong => false,
+        }
+    }
+}
+
 /// How the run of `steps` steps under the script goes wrong, if it does.
 pub(crate) fn wrong_under<P: Picks>(
     alloc: Global,
@@ -29,19 +40,21 @@ pub(crate) fn wrong_under<P: Picks>(
     script: &P,
     steps: u32,
 ) -> Result<Option<BadEnd>, AllocError>
-    requires { IsSpecified specified.now }
-    ensures { let s = spec_of specified.now.checked.now.spec in
-        IfOk result (λ found. IfSome found (λ w. IsWrongUnder (specification_of s) specified.now.turns steps (holds_in (shape_of s) specified.now.always.now) (P.script script.now) w.step w.fault)) }
+    requires { CanRun specified.now }
+    ensures wrong { let m = specified.now in
+        IfOk result (λ found. IfSome found (λ w. IsWrongUnder (specification_in m) m.turns steps (right_in m) (rests_in m) (P.script script.now) w.step w.fault)) }
+    ensures fine { let m = specified.now in
+        IfOk result (λ found. IfNone found (IsFineRun (specification_in m) m.turns steps (right_in m) record { script = P.script script.now; steps = steps })) }
 {
     test_laws();
-    let mut state = State::initial(alloc, specified.checked.signature())?;
+    let mut at = Position::first(alloc, specified)?;
     for done in 0..steps {
         let choices = Choices {
             script,
             step: u64::from(done) + 1,
         };
-        match step_from(alloc, specified, &choices, &state)? {
-            Ok(next) => state = next,
+        match step_from(alloc, specified, &choices, &at)? {
+            Ok(next) => at = next,
             Err(fault) => {
                 return Ok(Some(BadEnd {
                     step: done + 1,

@@ -1,5 +1,5 @@
 //! Which candidates a run takes, as far as it is drawn.
-ghost use Rattle.std.specs.Prelude.{◌≡◌, ℕ, [], length, unwrap_or, IfOk, OnOk};
+ghost use Rattle.std.specs.Prelude.{◌≡◌, ℕ, [], unwrap_or};
 ghost use Rattle.asm_reader.specs.code.ExactLines.{exactly};
 ghost use Rattle.asm_reader.specs.ScriptLines.{exact_choice};
 ghost use Rattle.asm_random.specs.Drafts.{draft_lines, lines_in};
@@ -20,7 +20,9 @@ pub(crate) struct Draft {
 
 impl Draft {
     /// The one of a run that takes the first candidate at each `choose`.
-    pub(crate) fn new(alloc: Global) -> Draft {
+    pub(crate) fn new(alloc: Global) -> Draft
+        ensures { result.steps.items ≡ [] }
+    {
         Draft {
             steps: Vec::new(alloc),
         }

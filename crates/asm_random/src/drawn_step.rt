@@ -1,9 +1,10 @@
 //! The numbers of a step, drawn.
-ghost use Rattle.std.specs.Prelude.{◌≡◌, length};
+ghost use Rattle.std.specs.Prelude.{◌≡◌, length, OnOk};
 ghost use Rattle.asm_state.specs.Signature.{count_of};
 ghost use Rattle.asm_syntax.specs.code.Views.{spec_of};
 ghost use Rattle.asm_check.specs.Shapes.{shape_of};
 ghost use Rattle.asm_explore.specs.code.ResolvedConditions.{IsSpecified};
+ghost use Rattle.asm_random.specs.code.DraftSteps.{AddsStep, ReplacesLast};
 
 use crate::asked_in::asked_in;
 use crate::draft::{Draft, Numbers};
@@ -48,6 +49,15 @@ fn are_drawn(source: RandomSource, step: u64, asked: &[ChoicePoint]) -> bool {
     true
 }
 
+/// Gives the last step of a draft these numbers instead of its own.
+fn replace_last(draft: &mut Draft, numbers: Numbers) -> Result<(), AllocError>
+    ensures { OnOk result (ReplacesLast draft.old draft.new numbers) }
+{
+    draft.steps.pop();
+    draft.steps.push(numbers)?;
+    Ok(())
+}
+
 /// Adds a step to a draft, with a number that is drawn for each choice that the step makes under
 /// these numbers. Returns whether it makes one.
 ///
@@ -63,6 +73,7 @@ pub(crate) fn draw_step(
 ) -> Result<bool, AllocError>
     requires sound { IsSpecified specified.now }
     requires whole { length state.now ≡ count_of (shape_of (spec_of specified.now.checked.now.spec)) }
+    ensures { OnOk result (AddsStep draft.old draft.new) }
 {
     draft.steps.push(BTreeMap::new(alloc))?;
     let step = draft.steps.len() as u64;
@@ -74,8 +85,7 @@ pub(crate) fn draw_step(
         let asked = asked_in(alloc, specified, &choices, state)?;
         let settled = are_drawn(source, step, asked.as_slice());
         let numbers = drawn_numbers(alloc, source, step, asked.as_slice())?;
-        draft.steps.pop();
-        draft.steps.push(numbers)?;
+        replace_last(draft, numbers)?;
         if settled {
             return Ok(!asked.is_empty());
         }

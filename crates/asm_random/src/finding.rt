@@ -2,17 +2,14 @@
 ghost use Rattle.std.specs.Prelude.{◌≤◌, ℕ, IfOk, IfSome};
 ghost use Rattle.std.specs.String.{string_bytes};
 ghost use Rattle.asm_reader.specs.ScriptText.{IsScript};
-ghost use Rattle.asm_syntax.specs.code.Views.{spec_of};
-ghost use Rattle.asm_check.specs.Shapes.{shape_of};
-ghost use Rattle.asm_meaning.specs.Declarations.{specification_of};
-ghost use Rattle.asm_explore.specs.code.ResolvedConditions.{IsSpecified, holds_in};
-ghost use Rattle.asm_random.specs.RandomResults.{Claims, IsBadScript};
+ghost use Rattle.asm_random.specs.RandomResults.{Claims, Counts, IsBadScript, IsLast};
+ghost use Rattle.asm_random.specs.code.ResolvedRuns.{CanRun, rests_in, right_in, specification_in};
 ghost use Rattle.asm_random.specs.code.ShorterRuns.{IsWrongFor};
 
 use crate::bad_draft::BadDraft;
 use crate::bad_end::wrong_under;
 use crate::random_result::RandomFinding;
-use crate::script_text::written;
+use crate::script_text::{chosen_text, written};
 use crate::shortening::shorten;
 use asm_explore::{BadRun, ResolvedQuestion, Unwritten};
 use asm_reader::{Script, read_script};
@@ -42,10 +39,10 @@ fn confirmed(
     specified: &ResolvedQuestion<'_>,
     run: &BadDraft,
 ) -> Result<Option<BadRun>, AllocError>
-    requires { IsSpecified specified.now }
-    ensures { let s = spec_of specified.now.checked.now.spec in
+    requires { CanRun specified.now }
+    ensures { let m = specified.now in
         (most : ℕ) → run.now.wrong.step ≤ most →
-        IfOk result (λ found. IfSome found (IsBadScript (specification_of s) specified.now.turns most (holds_in (shape_of s) specified.now.always.now))) }
+        IfOk result (λ found. IfSome found (IsBadScript (specification_in m) m.turns most (right_in m) (rests_in m))) }
 {
     let Some((text, script)) = script_of(alloc, run)? else {
         return Ok(None);
@@ -60,24 +57,36 @@ fn confirmed(
     }
 }
 
-/// What is found if the run with this number goes wrong.
+/// What is found if the run with this number goes wrong. If the script with its numbers can't be
+/// written, that with the choices that it makes may be shorter.
 fn finding_of(
     alloc: Global,
     specified: &ResolvedQuestion<'_>,
     number: u32,
     run: &BadDraft,
 ) -> Result<RandomFinding, AllocError>
-    requires { IsSpecified specified.now }
-    ensures { let s = spec_of specified.now.checked.now.spec in
-        (most : ℕ) → IsWrongFor specified.now most run.now →
-        IfOk result (Claims (specification_of s) specified.now.turns most (holds_in (shape_of s) specified.now.always.now)) }
+    requires { CanRun specified.now }
+    ensures claims { let m = specified.now in
+        (most : ℕ) → IsWrongFor m most run.now →
+        IfOk result (Claims (specification_in m) m.turns most (right_in m) (rests_in m)) }
+    ensures counts { let m = specified.now in
+        (most asked runs total : ℕ) → IsLast (specification_in m) m.turns most (right_in m) asked runs total number →
+        IfOk result (Counts (specification_in m) m.turns most (right_in m) asked runs total) }
 {
-    match confirmed(alloc, specified, run)? {
-        Some(bad) => Ok(RandomFinding::Bad { run: number, bad }),
-        None => Ok(RandomFinding::Unwritten(Unwritten {
-            step: u64::from(run.wrong.step),
-            fault: run.wrong.fault,
-        })),
+    if let Some(bad) = confirmed(alloc, specified, run)? {
+        return Ok(RandomFinding::Bad { run: number, bad });
+    }
+    let (step, fault) = (u64::from(run.wrong.step), run.wrong.fault);
+    match chosen_text(alloc, specified, run)? {
+        Some(script) => Ok(RandomFinding::Bad {
+            run: number,
+            bad: BadRun {
+                script,
+                step,
+                fault,
+            },
+        }),
+        None => Ok(RandomFinding::Unwritten(Unwritten { step, fault })),
     }
 }
 
@@ -96,10 +105,13 @@ pub(crate) fn short_finding(
     number: u32,
     run: BadDraft,
 ) -> Result<ShortFinding, AllocError>
-    requires { IsSpecified specified.now }
-    ensures { let s = spec_of specified.now.checked.now.spec in
-        (most : ℕ) → IsWrongFor specified.now most run →
-        IfOk result (λ found. Claims (specification_of s) specified.now.turns most (holds_in (shape_of s) specified.now.always.now) found.finding) }
+    requires { CanRun specified.now }
+    ensures claims { let m = specified.now in
+        (most : ℕ) → IsWrongFor m most run →
+        IfOk result (λ found. Claims (specification_in m) m.turns most (right_in m) (rests_in m) found.finding) }
+    ensures counts { let m = specified.now in
+        (most asked runs total : ℕ) → IsLast (specification_in m) m.turns most (right_in m) asked runs total number →
+        IfOk result (λ found. Counts (specification_in m) m.turns most (right_in m) asked runs total found.finding) }
 {
     let mut run = run;
     let shortest = shorten(alloc, specified, &mut run)?;

@@ -4,10 +4,12 @@
 mod asked_in;
 mod bad_draft;
 mod bad_end;
+mod deadlock;
 mod draft;
 mod drawn_step;
 mod finding;
 mod omission;
+mod position;
 pub mod progress;
 pub mod question;
 pub mod random;

@@ -2,12 +2,12 @@
 ghost use Rattle.std.specs.Prelude.{[], IfOk};
 ghost use Rattle.asm_syntax.specs.code.Views.{spec_of};
 ghost use Rattle.asm_check.specs.Faults.{inits};
-ghost use Rattle.asm_check.specs.Shapes.{shape_of};
 ghost use Rattle.asm_code.specs.code.RuleViews.{rule_of};
 ghost use Rattle.asm_meaning.specs.Declarations.{main_rule, specification_of};
 ghost use Rattle.asm_explore.specs.Conditions.{term_holds};
-ghost use Rattle.asm_explore.specs.code.ResolvedConditions.{IsSpecified, holds_in};
-ghost use Rattle.asm_random.specs.RandomResults.{Claims};
+ghost use Rattle.asm_explore.specs.code.ResolvedConditions.{IsCondition, IsSpecified};
+ghost use Rattle.asm_random.specs.RandomResults.{Claims, Counts};
+ghost use Rattle.asm_random.specs.code.ResolvedRuns.{CanRun, rests_in, right_in, specification_in};
 ghost use Rattle.asm_resolve.specs.code.RuleScopes.{resolved_rule_in};
 
 use crate::bad_draft::wrong_run;
@@ -15,9 +15,10 @@ use crate::finding::{ShortFinding, short_finding};
 use crate::progress::RandomProgress;
 use crate::question::RandomQuestion;
 use crate::random_result::{RandomFinding, RandomResult};
-use crate::random_run::random_run;
+use crate::random_run::{DrawnRun, random_run};
 use crate::random_source::RandomSource;
 use asm_check::Checked;
+use asm_code::code::Code;
 use asm_code::rule_code::RuleCode;
 use asm_explore::condition::condition_code;
 use asm_explore::{Machine, ResolvedQuestion, Watch};
@@ -32,9 +33,11 @@ fn runs_of<W: Watch<RandomProgress>>(
     question: &RandomQuestion,
     watch: &mut W,
 ) -> Result<RandomResult, AllocError>
-    requires { IsSpecified specified.now }
-    ensures { let s = spec_of specified.now.checked.now.spec in
-        IfOk result (λ answer. Claims (specification_of s) specified.now.turns question.now.steps (holds_in (shape_of s) specified.now.always.now) answer.finding) }
+    requires { CanRun specified.now }
+    ensures claims { let m = specified.now in
+        IfOk result (λ answer. Claims (specification_in m) m.turns question.now.steps (right_in m) (rests_in m) answer.finding) }
+    ensures counts { let m = specified.now in
+        IfOk result (λ answer. Counts (specification_in m) m.turns question.now.steps (right_in m) question.now.runs answer.runs answer.steps answer.finding) }
 {
     let mut made = 0u64;
     for number in 0..question.runs {
@@ -42,16 +45,20 @@ fn runs_of<W: Watch<RandomProgress>>(
             seed: question.seed,
             run: u64::from(number),
         };
-        let walked = random_run(alloc, specified, source, question.steps)?;
-        made = made.saturating_add(u64::from(walked.steps));
+        let DrawnRun {
+            draft,
+            steps,
+            wrong,
+        } = random_run(alloc, specified, source, question.steps)?;
+        made += u64::from(steps);
         watch.tell(RandomProgress {
             runs: number + 1,
             steps: made,
         });
-        if !walked.wrong {
+        if !wrong {
             continue;
         }
-        if let Some(run) = wrong_run(alloc, specified, walked.draft, question.steps)? {
+        if let Some(run) = wrong_run(alloc, specified, draft, steps)? {
             let ShortFinding { finding, shortest } = short_finding(alloc, specified, number, run)?;
             return Ok(RandomResult {
                 finding,
@@ -77,8 +84,10 @@ fn result_of_runs<W: Watch<RandomProgress>>(
     watch: &mut W,
 ) -> Result<RandomResult, AllocError>
     requires { IsSpecified specified.now }
-    ensures { let s = spec_of specified.now.checked.now.spec in
-        IfOk result (λ answer. Claims (specification_of s) specified.now.turns question.now.steps (holds_in (shape_of s) specified.now.always.now) answer.finding) }
+    ensures claims { let m = specified.now in
+        IfOk result (λ answer. Claims (specification_in m) m.turns question.now.steps (right_in m) (rests_in m) answer.finding) }
+    ensures counts { let m = specified.now in
+        IfOk result (λ answer. Counts (specification_in m) m.turns question.now.steps (right_in m) question.now.runs answer.runs answer.steps answer.finding) }
 {
     let initial = State::initial(alloc, specified.checked.signature())?;
     if !specified.is_right(alloc, &initial) {
@@ -92,6 +101,36 @@ fn result_of_runs<W: Watch<RandomProgress>>(
     runs_of(alloc, specified, question, watch)
 }
 
+/// Makes random runs of a specification whose main rule and whose condition have these codes.
+fn runs_with<W: Watch<RandomProgress>>(
+    alloc: Global,
+    checked: &Checked,
+    code: &RuleCode,
+    always: &Option<Code>,
+    question: &RandomQuestion,
+    watch: &mut W,
+) -> Result<RandomResult, AllocError>
+    requires main { let s = spec_of checked.now.spec in resolved_rule_in s [] (main_rule s (inits s)) (rule_of code.now) }
+    requires always { IsCondition checked.now question.now.always always.now }
+    ensures claims { let q = question.now in
+        IfOk result (λ answer. Claims (specification_of (spec_of checked.now.spec)) q.turns q.steps (term_holds checked.now q.always) (term_holds checked.now q.when_quiet) answer.finding) }
+    ensures counts { let q = question.now in
+        IfOk result (λ answer. Counts (specification_of (spec_of checked.now.spec)) q.turns q.steps (term_holds checked.now q.always) q.runs answer.runs answer.steps answer.finding) }
+{
+    let when_quiet = condition_code(alloc, checked, &question.when_quiet)?;
+    // Runs are followed from each state.
+    let specified = ResolvedQuestion {
+        checked,
+        code,
+        turns: question.turns,
+        limit: question.outcomes,
+        always,
+        within: always,
+        when_quiet: &when_quiet,
+    };
+    result_of_runs(alloc, &specified, question, watch)
+}
+
 /// Makes random runs of a specification whose main rule has this code.
 fn runs_by<W: Watch<RandomProgress>>(
     alloc: Global,
@@ -101,37 +140,31 @@ fn runs_by<W: Watch<RandomProgress>>(
     watch: &mut W,
 ) -> Result<RandomResult, AllocError>
     requires { let s = spec_of checked.now.spec in resolved_rule_in s [] (main_rule s (inits s)) (rule_of code.now) }
-    ensures { let q = question.now in
-        IfOk result (λ answer. Claims (specification_of (spec_of checked.now.spec)) q.turns q.steps (term_holds checked.now q.always) answer.finding) }
+    ensures claims { let q = question.now in
+        IfOk result (λ answer. Claims (specification_of (spec_of checked.now.spec)) q.turns q.steps (term_holds checked.now q.always) (term_holds checked.now q.when_quiet) answer.finding) }
+    ensures counts { let q = question.now in
+        IfOk result (λ answer. Counts (specification_of (spec_of checked.now.spec)) q.turns q.steps (term_holds checked.now q.always) q.runs answer.runs answer.steps answer.finding) }
 {
     let always = condition_code(alloc, checked, &question.always)?;
-    // Runs are followed from each state, and no state is asked whether it is quiet.
-    let specified = ResolvedQuestion {
-        checked,
-        code,
-        turns: question.turns,
-        limit: 0,
-        always: &always,
-        within: &always,
-        when_quiet: &always,
-    };
-    result_of_runs(alloc, &specified, question, watch)
+    runs_with(alloc, checked, code, &always, question, watch)
 }
 
 /// Makes random runs of a specification, until one goes wrong: by a clash, by an update outside its
-/// domain, by an `iterate` that is exhausted, or in a state in which the condition isn't true. That
-/// one is made shorter.
+/// domain, by an `iterate` that is exhausted, in a state in which the condition isn't true, or in a
+/// deadlock. That one is made shorter.
 ///
-/// Runs and steps depend on the seed alone, and are the same on every machine. After each run the
-/// watch is told how many there were.
+/// Runs and steps depend on the question alone, and are the same on every machine. After each run
+/// the watch is told how many there were.
 pub fn random_runs<W: Watch<RandomProgress>>(
     alloc: Global,
     checked: &Checked,
     question: &RandomQuestion,
     watch: &mut W,
 ) -> Result<RandomResult, AllocError>
-    ensures { let q = question.now in
-        IfOk result (λ answer. Claims (specification_of (spec_of checked.now.spec)) q.turns q.steps (term_holds checked.now q.always) answer.finding) }
+    ensures claims { let q = question.now in
+        IfOk result (λ answer. Claims (specification_of (spec_of checked.now.spec)) q.turns q.steps (term_holds checked.now q.always) (term_holds checked.now q.when_quiet) answer.finding) }
+    ensures counts { let q = question.now in
+        IfOk result (λ answer. Counts (specification_of (spec_of checked.now.spec)) q.turns q.steps (term_holds checked.now q.always) q.runs answer.runs answer.steps answer.finding) }
 {
     let code = resolve_main(alloc, checked)?;
     runs_by(alloc, checked, &code, question, watch)

@@ -1,14 +1,16 @@
 //! A random run.
-ghost use Rattle.std.specs.Prelude.{◌≡◌, length};
-ghost use Rattle.asm_explore.specs.code.ResolvedConditions.{IsSpecified};
+ghost use Rattle.std.specs.Prelude.{◌≡◌, ◌≤◌, false, IfOk};
+ghost use Rattle.asm_random.specs.code.DraftSteps.{IsFineDraft};
+ghost use Rattle.asm_random.specs.code.ResolvedRuns.{CanRun};
 
 use crate::draft::Draft;
 use crate::drawn_step::draw_step;
+use crate::position::Position;
 use crate::random_source::RandomSource;
 use crate::stepping::step_from;
 use asm_explore::ResolvedQuestion;
 use asm_meaning::Choices;
-use asm_state::state::State;
+use asm_state::laws::test_laws;
 use std::alloc::{AllocError, Global};
 
 /// A run that was drawn.
@@ -21,19 +23,6 @@ pub(crate) struct DrawnRun {
     pub(crate) wrong: bool,
 }
 
-/// Whether two states have the same contents.
-fn is_same_state(left: &State, right: &State, count: usize) -> bool
-    requires left { length left.now ≡ count }
-    requires right { length right.now ≡ count }
-{
-    for n in 0..count {
-        if left.content(n).code() != right.content(n).code() {
-            return false;
-        }
-    }
-    true
-}
-
 /// A run of at most `steps` steps. It ends when it goes wrong, and when a step makes no choice and
 /// changes nothing: no later one does.
 pub(crate) fn random_run(
@@ -42,32 +31,34 @@ pub(crate) fn random_run(
     source: RandomSource,
     steps: u32,
 ) -> Result<DrawnRun, AllocError>
-    requires { IsSpecified specified.now }
+    requires { CanRun specified.now }
+    ensures limited { IfOk result (λ drawn. drawn.steps ≤ steps) }
+    ensures fine { IfOk result (λ drawn. drawn.wrong ≡ false → IsFineDraft specified.now steps drawn.draft drawn.steps) }
 {
-    let signature = specified.checked.signature();
+    test_laws();
     let mut draft = Draft::new(alloc);
-    let mut state = State::initial(alloc, signature)?;
+    let mut at = Position::first(alloc, specified)?;
     for done in 0..steps {
-        let chosen = draw_step(alloc, specified, source, &state, &mut draft)?;
+        let chosen = draw_step(alloc, specified, source, &at.state, &mut draft)?;
         let choices = Choices {
             script: &draft,
             step: u64::from(done) + 1,
         };
-        let Ok(next) = step_from(alloc, specified, &choices, &state)? else {
+        let Ok(next) = step_from(alloc, specified, &choices, &at)? else {
             return Ok(DrawnRun {
                 draft,
                 steps: done + 1,
                 wrong: true,
             });
         };
-        if !chosen && is_same_state(&state, &next, signature.count()) {
+        if !chosen && next.stays {
             return Ok(DrawnRun {
                 draft,
                 steps: done + 1,
                 wrong: false,
             });
         }
-        state = next;
+        at = next;
     }
     Ok(DrawnRun {
         draft,

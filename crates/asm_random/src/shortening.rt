@@ -1,9 +1,10 @@
 //! Runs that go wrong, made shorter.
-ghost use Rattle.std.specs.Prelude.{OnOk};
-ghost use Rattle.asm_explore.specs.code.ResolvedConditions.{IsSpecified};
+ghost use Rattle.std.specs.Prelude.{◌≤◌, OnOk};
+ghost use Rattle.asm_random.specs.code.ResolvedRuns.{CanRun};
 ghost use Rattle.asm_random.specs.code.ShorterRuns.{StaysWrong};
 
 use crate::bad_draft::{BadDraft, wrong_run};
+use crate::draft::Draft;
 use crate::omission::{Omission, draft_without};
 use asm_explore::ResolvedQuestion;
 use std::alloc::{AllocError, Global};
@@ -11,8 +12,18 @@ use std::alloc::{AllocError, Global};
 /// How many steps are made for shortening a run.
 const MAX_SHORTENING_STEPS: u64 = 10_000_000;
 
-/// The run without something, instead of the run, if it goes wrong, and that in no later step.
-/// Counts the steps that may still be made.
+/// How many steps a draft has, at most `most`.
+fn steps_of(draft: &Draft, most: u32) -> u32
+    ensures { result ≤ most }
+{
+    match u32::try_from(draft.steps.len()) {
+        Ok(len) => len.min(most),
+        Err(_) => most,
+    }
+}
+
+/// The run without something, instead of the run, if it goes wrong, and that in no later step: in a
+/// deadlock if the run does, and else by another fault. Counts the steps that may still be made.
 fn try_without(
     alloc: Global,
     specified: &ResolvedQuestion<'_>,
@@ -20,7 +31,7 @@ fn try_without(
     left: &mut u64,
     omission: Omission,
 ) -> Result<(), AllocError>
-    requires { IsSpecified specified.now }
+    requires { CanRun specified.now }
     ensures { OnOk result (StaysWrong specified.now run.old run.new) }
 {
     let steps = run.wrong.step;
@@ -30,12 +41,11 @@ fn try_without(
     }
     *left -= u64::from(steps);
     let draft = draft_without(alloc, &run.draft, steps as usize, omission)?;
-    let most = match u32::try_from(draft.steps.len()) {
-        Ok(len) => len.min(steps),
-        Err(_) => steps,
-    };
+    let most = steps_of(&draft, steps);
     if let Some(better) = wrong_run(alloc, specified, draft, most)? {
-        *run = better;
+        if better.wrong.is_deadlock() == run.wrong.is_deadlock() {
+            *run = better;
+        }
     }
     Ok(())
 }
@@ -60,7 +70,7 @@ fn try_block(
     from: usize,
     to: usize,
 ) -> Result<(), AllocError>
-    requires { IsSpecified specified.now }
+    requires { CanRun specified.now }
     ensures { OnOk result (StaysWrong specified.now run.old run.new) }
 {
     try_without(alloc, specified, run, left, Omission::Steps { from, to })?;
@@ -79,7 +89,7 @@ fn try_steps(
     left: &mut u64,
     size: usize,
 ) -> Result<(), AllocError>
-    requires { IsSpecified specified.now }
+    requires { CanRun specified.now }
     ensures { OnOk result (StaysWrong specified.now run.old run.new) }
 {
     let mut to = run.wrong.step as usize;
@@ -102,7 +112,7 @@ fn try_lines(
     left: &mut u64,
     step: usize,
 ) -> Result<(), AllocError>
-    requires { IsSpecified specified.now }
+    requires { CanRun specified.now }
     ensures { OnOk result (StaysWrong specified.now run.old run.new) }
 {
     let count = lines_at(run, step);
@@ -137,7 +147,7 @@ fn shorten_once(
     run: &mut BadDraft,
     left: &mut u64,
 ) -> Result<(), AllocError>
-    requires { IsSpecified specified.now }
+    requires { CanRun specified.now }
     ensures { OnOk result (StaysWrong specified.now run.old run.new) }
 {
     let steps = run.wrong.step as usize;
@@ -162,7 +172,7 @@ pub(crate) fn shorten(
     specified: &ResolvedQuestion<'_>,
     run: &mut BadDraft,
 ) -> Result<bool, AllocError>
-    requires { IsSpecified specified.now }
+    requires { CanRun specified.now }
     ensures { OnOk result (StaysWrong specified.now run.old run.new) }
 {
     let mut left = MAX_SHORTENING_STEPS;

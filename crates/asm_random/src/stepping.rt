@@ -1,23 +1,27 @@
 //! A step, under the choices of a script.
-ghost use Rattle.std.specs.Prelude.{◌≡◌, [], length, IfOk};
-ghost use Rattle.asm_state.specs.Signature.{count_of};
+ghost use Rattle.std.specs.Prelude.{◌≡◌, [], true, IfOk};
+ghost use Rattle.asm_state.specs.code.Contents.{IsStateOf};
+ghost use Rattle.asm_state.specs.Signature.{state_of};
 ghost use Rattle.asm_syntax.specs.code.Views.{spec_of};
 ghost use Rattle.asm_check.specs.Faults.{inits};
 ghost use Rattle.asm_check.specs.Shapes.{shape_of};
-ghost use Rattle.asm_meaning.specs.Declarations.{main_rule, program_of, specification_of};
+ghost use Rattle.asm_meaning.specs.Declarations.{main_rule, program_of};
 ghost use Rattle.asm_meaning.specs.Does.{does};
 ghost use Rattle.asm_meaning.specs.code.FormedOutcomes.{Follows, IsFormed};
 ghost use Rattle.asm_meaning.specs.Program.{nothing_bound};
 ghost use Rattle.asm_meaning.specs.code.TermValues.{shown};
 ghost use Rattle.asm_eval.specs.code.Evaluation.{HasLocations, evaluation_shape, evaluation_state};
-ghost use Rattle.asm_explore.specs.code.ResolvedConditions.{IsSpecified, holds_in};
+ghost use Rattle.asm_explore.specs.code.ResolvedConditions.{IsSpecified};
 ghost use Rattle.asm_random.specs.code.Replay.{MakesStep};
+ghost use Rattle.asm_random.specs.code.ResolvedRuns.{IsDead, right_in, shape_in, specification_in};
 
+use crate::deadlock::is_deadlock;
+use crate::position::Position;
 use asm_eval::evaluation::Evaluation;
 use asm_eval::form::form;
 use asm_eval::frame::Frame;
 use asm_eval::regions::OnThisThread;
-use asm_explore::{Fault, Machine, ResolvedQuestion};
+use asm_explore::{Fault, Machine, ResolvedQuestion, is_same_state};
 use asm_meaning::laws::from_nothing_laws;
 use asm_meaning::{Choices, Forming, Outcome, Stopped, View};
 use asm_reader::Picks;
@@ -82,9 +86,9 @@ fn next_state<P: Picks>(
     state: &State,
 ) -> Result<Result<State, Fault>, AllocError>
     requires sound { IsSpecified specified.now }
-    requires whole { length state.now ≡ count_of (shape_of (spec_of specified.now.checked.now.spec)) }
-    ensures { let s = spec_of specified.now.checked.now.spec in
-        IfOk result (MakesStep (specification_of s) specified.now.turns (P.script choices.now.script.now) (holds_in (shape_of s) specified.now.always.now) choices.now.step (shape_of s) state.now) }
+    requires state { IsStateOf (shape_in specified.now) state.now }
+    ensures { let m = specified.now in
+        IfOk result (MakesStep (specification_in m) m.turns (P.script choices.now.script.now) (right_in m) (IsDead m) (λ next. next) choices.now.step (shape_in m) state.now) }
 {
     let signature = specified.checked.signature();
     let nothing = Summary::new(alloc, signature.count());
@@ -100,26 +104,30 @@ fn next_state<P: Picks>(
     Ok(Ok(next))
 }
 
-/// The state that the step leads to, if it isn't faulty and the state is right.
+/// Where the step leads, if it isn't faulty, the state is right, and it isn't seen to be a deadlock
+/// in which the step began. Of a state that stayed as it was before, this was looked at then.
 pub(crate) fn step_from<P: Picks>(
     alloc: Global,
     specified: &ResolvedQuestion<'_>,
     choices: &Choices<'_, P>,
-    state: &State,
-) -> Result<Result<State, Fault>, AllocError>
+    at: &Position,
+) -> Result<Result<Position, Fault>, AllocError>
     requires sound { IsSpecified specified.now }
-    requires whole { length state.now ≡ count_of (shape_of (spec_of specified.now.checked.now.spec)) }
-    ensures { let s = spec_of specified.now.checked.now.spec in
-        IfOk result (MakesStep (specification_of s) specified.now.turns (P.script choices.now.script.now) (holds_in (shape_of s) specified.now.always.now) choices.now.step (shape_of s) state.now) }
+    requires state { IsStateOf (shape_in specified.now) at.now.state }
+    ensures step { let m = specified.now in
+        IfOk result (MakesStep (specification_in m) m.turns (P.script choices.now.script.now) (right_in m) (IsDead m) (λ next. next.state) choices.now.step (shape_in m) at.now.state) }
+    ensures right { IfOk result (λ ended. IfOk ended (λ next. right_in specified.now (state_of (shape_in specified.now) next.state) ≡ true)) }
 {
-    match next_state(alloc, specified, choices, state)? {
-        Err(fault) => Ok(Err(fault)),
-        Ok(next) => {
-            if specified.is_right(alloc, &next) {
-                Ok(Ok(next))
-            } else {
-                Ok(Err(Fault::Wrong))
-            }
-        }
+    let state = match next_state(alloc, specified, choices, &at.state)? {
+        Ok(state) => state,
+        Err(fault) => return Ok(Err(fault)),
+    };
+    if !specified.is_right(alloc, &state) {
+        return Ok(Err(Fault::Wrong));
     }
+    let stays = is_same_state(&at.state, &state, specified.checked.signature().count());
+    if stays && !at.stays && is_deadlock(alloc, specified, &state)? {
+        return Ok(Err(Fault::Deadlock));
+    }
+    Ok(Ok(Position { state, stays }))
 }

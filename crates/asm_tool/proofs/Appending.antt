@@ -1,7 +1,7 @@
 -- Free. What several writes in a row do to the known bytes of standard error.
-use Rattle.std.proofs.Common.{ℕ, ◌+◌, List, ◌++◌, Option, None, Some, length, take, drop, ap, sym, subst, ◌∙◌, append_assoc, length-append, arith}
-use Rattle.std.proofs.Math.Seq.{take-add, take-append-add}
-use Rattle.std.proofs.lemmas.List.{take-append-le, take_rest}
+use Rattle.std.proofs.Common.{ℕ, ◌+◌, List, ◌++◌, Option, None, Some, length, take, ap, sym, subst, ◌∙◌, append_assoc, length-append, arith}
+use Rattle.std.proofs.Math.Seq.{take-append-add}
+use Rattle.std.proofs.lemmas.List.{take-append-le}
 use Rattle.std.specs.Io.KnownBytes.{Appends}
 use Rattle.asm_run.specs.Sink.{AppendsFront}
 
@@ -11,10 +11,6 @@ Appends-trans None b c xs ys p q = tt
 Appends-trans (Some x) None c xs ys p q = absurd p
 Appends-trans (Some x) (Some y) None xs ys p q = absurd q
 Appends-trans (Some x) (Some y) (Some z) xs ys p q = q ∙ ap (λ l. l ++ ys) p ∙ append_assoc x xs ys
-
--- a further piece of one text
-pub Appends-take : (a b c : Option (List ℕ)) (text : List ℕ) (n k : ℕ) → Appends a b (take n text) → Appends b c (take k (drop n text)) → Appends a c (take (n + k) text)
-Appends-take a b c text n k p q = subst (Appends a c) (sym (take-add n k text)) (Appends-trans a b c (take n text) (take k (drop n text)) p q)
 
 -- a text, and then the front of another
 pub Appends-front : (a b c : Option (List ℕ)) (xs ys : List ℕ) → Appends a b xs → AppendsFront b c ys → AppendsFront a c (xs ++ ys)
@@ -33,4 +29,4 @@ AppendsFront-longer a b xs ys p = record {
 }
 
 -- what a tactic needs for several writes in a row
-pub ruleset appending = (take_rest, Appends-trans, Appends-take, Appends-front, AppendsFront-longer)
+pub ruleset appending = (Appends-trans, Appends-front, AppendsFront-longer)

@@ -5,6 +5,7 @@ ghost use Rattle.asm_run.specs.Sink.{AppendsFront};
 ghost use Rattle.asm_tool.specs.ToolPromises.{IsSaid, line_of, numbered, placed};
 
 use crate::fault::Fault;
+use asm_files::whole::write_whole;
 use asm_run::sink::{Sink, SinkFault};
 use itoa::Buffer;
 use std::fmt;
@@ -16,13 +17,13 @@ pub(crate) fn say<E: Sink>(fault: &Fault, err: &mut E)
 {
     let _ = match fault {
         Fault::Words(error) => text(err, error),
-        Fault::NotText => whole(err, b"error: a word is not UTF-8\n"),
+        Fault::NotText => write_whole(err, b"error: a word is not UTF-8\n"),
         Fault::Read(error) => numbered(err, b"read ", error.number(), b" at ", error.at()),
         Fault::Check(error) => numbered(err, b"check ", error.number(), b" at ", Some(error.at)),
         Fault::Script(error) => numbered(err, b"script ", error.number(), b" line ", error.line()),
-        Fault::Memory => whole(err, b"memory\n"),
-        Fault::File => whole(err, b"file\n"),
-        Fault::Write => whole(err, b"write\n"),
+        Fault::Memory => write_whole(err, b"memory\n"),
+        Fault::File => write_whole(err, b"file\n"),
+        Fault::Write => write_whole(err, b"write\n"),
     };
 }
 
@@ -34,7 +35,7 @@ struct SinkWriter<'e, E> {
 
 impl<E: Sink> Write for SinkWriter<'_, E> {
     fn write_str(&mut self, text: &str) -> fmt::Result {
-        match whole(self.err, text.as_bytes()) {
+        match write_whole(self.err, text.as_bytes()) {
             Ok(()) => Ok(()),
             Err(SinkFault) => Err(fmt::Error),
         }
@@ -62,8 +63,8 @@ fn numbered<E: Sink>(
     ensures cut { OnErr result (AppendsFront (E.bytes err.old) (E.bytes err.new) (numbered kind.now number before.now place)) }
     ensures failed { IsErr result → IsTrue (E.has_failed err.new) }
 {
-    whole(err, kind)?;
-    whole(err, Buffer::new().format(number).as_bytes())?;
+    write_whole(err, kind)?;
+    write_whole(err, Buffer::new().format(number).as_bytes())?;
     placed(err, before, place)
 }
 
@@ -76,27 +77,10 @@ fn placed<E: Sink>(err: &mut E, before: &[u8], place: Option<usize>) -> Result<(
 {
     match place {
         Some(place) => {
-            whole(err, before)?;
-            whole(err, Buffer::new().format(place).as_bytes())?;
-            whole(err, b"\n")
+            write_whole(err, before)?;
+            write_whole(err, Buffer::new().format(place).as_bytes())?;
+            write_whole(err, b"\n")
         }
-        None => whole(err, b"\n"),
+        None => write_whole(err, b"\n"),
     }
-}
-
-/// Writes the whole text, in as many pieces as the sink takes.
-#[tactic(auto, using(crate::proofs::Appending::appending))]
-fn whole<E: Sink>(err: &mut E, text: &[u8]) -> Result<(), SinkFault>
-    ensures whole { OnOk result (Appends (E.bytes err.old) (E.bytes err.new) text.now) }
-    ensures cut { OnErr result (AppendsFront (E.bytes err.old) (E.bytes err.new) text.now) }
-    ensures failed { IsErr result → IsTrue (E.has_failed err.new) }
-{
-    let mut written = 0;
-    while written < text.len() {
-        match err.write(&text[written..])? {
-            0 => return Err(SinkFault),
-            taken => written += taken,
-        }
-    }
-    Ok(())
 }

@@ -1,16 +1,17 @@
 -- Free. Lists of choices that take different candidates.
 --     differ_*         two of them
 --     different_*      each two of a list
+--     different_from   each two differ in parts from a number on, if they lie there
 --     joined_differ, replaced_differ, picked_differ      of what comes of lists whose elements
 --                                                        differ
-use Rattle.std.proofs.Common.{◌≡◌, ◌+◌, ℕ, List, [], ◌∷◌, ◌++◌, map, inl, refl, sym, subst, arith, append-nil}
+use Rattle.std.proofs.Common.{◌≡◌, ◌+◌, ◌≤◌, ℕ, List, [], ◌∷◌, ◌++◌, map, inl, refl, sym, subst, arith, append-nil}
 use Rattle.asm_meaning.specs.Yields.{Path, at}
 use Rattle.asm_explore.specs.declared.outcomes.listed_outcome.Choice.{Choice}
 use Rattle.asm_explore.specs.code.ListElements.{Each}
-use Rattle.asm_explore.specs.code.ChoicePaths.{LiesAt}
-use Rattle.asm_explore.specs.code.OverLimit.{Differ, AreDifferent, TakesBefore}
+use Rattle.asm_explore.specs.code.ChoicePaths.{LiesAt, IsPlacedFrom}
+use Rattle.asm_explore.specs.code.OverLimit.{Differ, AreDifferent, DifferFrom, AreDifferentFrom, TakesBefore}
 use Rattle.asm_explore.specs.code.ChoiceLists.{AreSomeOf, behind, all_joined, with_choice}
-use Rattle.asm_explore.proofs.Elements.{each_append, each_first, each_last, each_weaker, any_first, any_last}
+use Rattle.asm_explore.proofs.Elements.{each_append, each_among, each_first, each_last, each_weaker, any_first, any_last}
 use Rattle.asm_explore.proofs.ChoiceLemmas.ChoicePaths.{lies_above}
 use Rattle.asm_explore.proofs.OutcomeLemmas.ChoiceLists.{some_each, each_any, each_mapped, joined_each}
 
@@ -116,6 +117,38 @@ module _ (p : Path) where
       → (ways : List (List Choice)) → AreDifferent p ways → AreDifferent p (map g ways)
   different_mapped g f [] h = tt
   different_mapped g f (cs ∷ ways) h = (each_mapped (Differ p cs) (Differ p (g cs)) g (λ ds. f cs ds) ways h.0, different_mapped g f ways h.1)
+
+  -- ---- in parts from a number on
+
+  differ_from : (k : ℕ) (cs ds : List Choice) → IsPlacedFrom p k cs → Differ p cs ds → DifferFrom p k cs ds
+  differ_from k cs ds placed h =
+      let there : (j : ℕ) × (k ≤ j) × LiesAt (at p j) h.one.path = each_among (λ c. (j : ℕ) × (k ≤ j) × LiesAt (at p j) c.path) cs h.one h.first placed.below in (
+        there.0,
+        there.1,
+        record {
+          one = h.one;
+          other = h.other;
+          first = h.first;
+          second = h.second;
+          same = h.same;
+          below = there.2;
+          differ = h.differ;
+        },
+      )
+
+  pub different_from : (k : ℕ) (ways : List (List Choice)) → Each (IsPlacedFrom p k) ways → AreDifferent p ways → AreDifferentFrom p k ways
+  different_from k [] placed h = tt
+  different_from k (cs ∷ ways) placed h = (each_weaker (Differ p cs) (DifferFrom p k cs) (λ ds. differ_from k cs ds placed.0) ways h.0, different_from k ways placed.1 h.1)
+
+  pub different_from_mapped : (g : List Choice → List Choice) → ((q : Path) (cs ds : List Choice) → Differ q cs ds → Differ q (g cs) (g ds))
+      → (k : ℕ) (ways : List (List Choice)) → AreDifferentFrom p k ways → AreDifferentFrom p k (map g ways)
+  different_from_mapped g f k [] h = tt
+  different_from_mapped g f k (cs ∷ ways) h = (
+    each_mapped (DifferFrom p k cs) (DifferFrom p k (g cs)) g (λ ds there. (there.0, there.1, f (at p there.0) cs ds there.2)) ways h.0,
+    different_from_mapped g f k ways h.1,
+  )
+
+  -- ---- behind others
 
   pub behind_differ : (cs : List Choice) (ways : List (List Choice)) → AreDifferent p ways → AreDifferent p (behind cs ways)
   behind_differ cs = different_mapped (λ ds. cs ++ ds) (λ ds es. differ_behind ds es cs)

@@ -6,7 +6,7 @@
 --     one_made, way_then      one of those that go on has gone on; a way through the next part
 --                             after it
 --     part_refused, sorted_refused     if what comes of it is refused
-use Rattle.std.proofs.Common.{◌≡◌, ℕ, ◌+◌, ◌<◌, Bool, false, cond, List, [], ◌++◌, ◌∷◌, ◌⊎◌, inl, inr, sym, ap, subst, ◌∙◌}
+use Rattle.std.proofs.Common.{◌≡◌, ℕ, ◌+◌, ◌<◌, Bool, false, cond, List, [], ◌++◌, ◌∷◌, ◌⊎◌, inl, inr, sym, ap, subst, ◌∙◌, length}
 use Rattle.std.specs.Prelude.{Result as Returned, IfErr}
 use Rattle.std.specs.Result.{IsErrAnd}
 use Rattle.asm_state.specs.Location.{State}
@@ -27,7 +27,7 @@ use Rattle.asm_explore.specs.code.OutcomeLists.{Situation, Each, IsTaken, Shows,
 use Rattle.asm_explore.specs.code.ChoicesMade.{AreMade, IsWay}
 use Rattle.asm_explore.specs.code.ChoicesMadeSoFar.{made_after, MakesTo, MakesOfAll, MadeSoFar}
 use Rattle.asm_explore.specs.code.ChoicePaths.{LieBelow, IsPlacedBefore}
-use Rattle.asm_explore.specs.code.Sequences.{ends, HasSet, IsIn, ComesOf, SortsAll, BothHave, both_ways, AllDiffer}
+use Rattle.asm_explore.specs.code.Sequences.{ends, HasSet, IsIn, ComesOf, SortsAll, BothHave, longer, AllDiffer}
 use Rattle.asm_explore.specs.code.ChoiceLists.{choice_lists, behind}
 use Rattle.asm_explore.proofs.ChoiceLemmas.ChoicesCarried.{have_sorted}
 use Rattle.asm_explore.proofs.OutcomeLemmas.OverLimit.{refuses_on, sorted_refuses}
@@ -137,7 +137,7 @@ module _ (shape : Shape) (turns : Bool) (A : State) (here : Situation → State 
     pub sorted_refused : (limit : ℕ) (p : Path) (k : ℕ) → IsPlacedBefore p k f.choices → (part : List ListedOutcome) (sorted : SequenceOutcomes) → AllDiffer p (f ∷ []) sorted → AreDifferent (at p k) (choice_lists part)
         → HaveChoices (LieBelow (at p k)) part → HaveChoices (AreMade (λ s. makes s state)) part → BothHave (IsPlacedBefore p (k + 1)) sorted
         → HaveChoices (AreMade total) sorted.done.items → HaveChoices (AreMade total) sorted.more.items
-        → (first others : ℕ) (r : OutcomesError) → NamesRule p first others r → IsOverLimit limit (both_ways sorted ++ behind f.choices (choice_lists part)) r → Refuses limit (λ q. IsWay p total) r
+        → (r : OutcomesError) → NamesRule p (length part) (length (longer sorted)) r → IsOverLimit limit (choice_lists (longer sorted) ++ behind f.choices (choice_lists part)) r → Refuses limit (λ q. IsWay p total) r
     sorted_refused limit p k before part sorted differ part_differs placed made both done_made more_made =
         sorted_refuses limit (λ q. IsWay p total) (IsWay (at p k) (λ s. makes s state)) p k f (way_then p k before) part sorted differ part_differs
         (have_ways_made (at p k) (λ s. makes s state) part placed made)

@@ -14,7 +14,7 @@ use Rattle.asm_code.specs.code.RuleMeaning.{Locations, meaning, passes, optional
 use Rattle.asm_code.specs.code.RuleTree.{RuleCode, Skip, Assign, Par, Seq, If, Let, Forall, Choose, Iterate, Call, RuleCodes, no_rules, rule_then}
 use Rattle.asm_explore.specs.declared.outcomes.listed_outcome.Choice.{Choice}
 use Rattle.asm_explore.specs.code.ChooseNothing.{ChoosesNothing, ChooseNothing}
-use Rattle.asm_explore.specs.code.ChoicesMade.{Making, ChoosingPart, made, parts_of, parts_make, order_makes, each_makes, turns_make, after_part, after_turn}
+use Rattle.asm_explore.specs.code.ChoicesMade.{ChoosingPart, made, parts_of, parts_make, order_makes, each_makes, turns_make, after_part, after_turn}
 use Rattle.asm_explore.specs.ChoicesMadeLaws.{Takes}
 use Rattle.asm_explore.proofs.ChoiceLemmas.MadeAlike.{making_laws}
 

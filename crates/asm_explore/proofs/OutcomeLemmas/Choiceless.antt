@@ -4,7 +4,7 @@
 --     set_formed, exhausted_formed, set_shows, exhausted_shows
 --                               the outcome that is formed is what the rule yields through each
 --                               script
-use Rattle.std.proofs.Common.{◌∙◌, ap, refl, ◌≡◌, ℕ, ◌+◌, ◌<◌, ◌≤◌, List, [], ◌∷◌, ◌++◌, length, take, get_or, map, Option, Some, None, subst, sym}
+use Rattle.std.proofs.Common.{◌∙◌, ap, refl, ◌≡◌, ℕ, ◌+◌, ◌<◌, ◌≤◌, List, [], ◌∷◌, length, take, get_or, map, Option, Some, None, subst, sym}
 use Rattle.std.specs.Prelude.{IfSome}
 use Rattle.std.proofs.lemmas.List.{take_more, take_all}
 use Rattle.asm_state.specs.Location.{State}

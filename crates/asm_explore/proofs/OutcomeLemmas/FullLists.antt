@@ -2,9 +2,12 @@
 --     too_many_on              what is so at the exit of a `?`
 --     crowd_next, crowd_*      one that isn't added to a list at its limit, and those before it,
 --                              are more than the limit says
-use Rattle.std.proofs.Common.{◌≡◌, ℕ, zero, suc, refl, ◌+◌, ◌<◌, ◌≤◌, List, [], ◌∷◌, ◌++◌, map, length, take, drop, get_or, sym, ap, subst, arith}
+--     longer_*                 the longer list of a sequence
+--     *_count                  how many all of them are
+use Rattle.std.proofs.Common.{◌≡◌, ℕ, zero, suc, refl, ◌+◌, ◌*◌, ◌<◌, ◌≤◌, max, ltb, ◌⊎◌, inl, inr, List, [], ◌∷◌, ◌++◌, map, length, take, drop, get_or, sym, ap, subst, arith}
 use Rattle.std.specs.Prelude.{Result as Returned, Ok, Err, IfErr}
 use Rattle.std.specs.Result.{IsErrAnd}
+use Rattle.std.proofs.lemmas.Bool.{cases_lt, cond_both, ltb-true, ltb-false}
 use Rattle.std.proofs.lemmas.List.{length-append, length-map, length-take-le, take-append-drop}
 use Rattle.asm_explore.specs.declared.outcomes.listed_outcome.Choice.{Choice}
 use Rattle.asm_explore.specs.declared.outcomes.listed_outcome.ListedOutcome.{ListedOutcome}
@@ -12,7 +15,7 @@ use Rattle.asm_explore.specs.declared.outcomes.list_error.ListError.{ListError}
 use Rattle.asm_explore.specs.declared.outcomes.list_error.ListError.TheVariants as overflow
 use Rattle.asm_explore.specs.declared.outcomes.sequence_outcomes.SequenceOutcomes.{SequenceOutcomes}
 use Rattle.asm_explore.specs.code.OverLimit.{IfTooMany}
-use Rattle.asm_explore.specs.code.Sequences.{both_ways}
+use Rattle.asm_explore.specs.code.Sequences.{both_ways, longer}
 use Rattle.asm_explore.specs.code.ChoiceLists.{choice_lists, AreSomeOf, behind, all_joined, with_choice}
 use Rattle.asm_explore.proofs.OutcomeLemmas.ChoiceLists.{some_fewer, joined_append, joined_take}
 
@@ -58,6 +61,23 @@ module _ (limit : ℕ) (part : List ListedOutcome) (i : ℕ) (low : i < length p
       let more : limit < length (choice_lists old) + length part =
       crowd_next limit i (length part) (choice_lists mid) (choice_lists old) (choice_lists (take i part)) (taken_count part i low) low some (omega (arith, full, ways_count mid)) in
       omega (arith, more, ways_count old)
+
+  -- the longer list of a sequence
+  pub crowd_longer : (g : List Choice → List Choice) (mid old : SequenceOutcomes)
+      → AreSomeOf (choice_lists mid.done.items) (choice_lists old.done.items ++ map g (choice_lists (take i part)))
+      → AreSomeOf (choice_lists mid.more.items) (choice_lists old.more.items ++ map g (choice_lists (take i part)))
+      → limit ≤ max (length mid.done.items) (length mid.more.items)
+      → limit < max (length old.done.items) (length old.more.items) + length part
+  crowd_longer g mid old done more full = by_length (cases_lt (length mid.done.items) (length mid.more.items))
+    where
+      by_length : (length mid.done.items < length mid.more.items) ⊎ (length mid.more.items ≤ length mid.done.items)
+          → limit < max (length old.done.items) (length old.more.items) + length part
+      by_length (inl less) =
+          let beyond : limit < length old.more.items + length part = crowd_found g mid.more.items old.more.items more (omega (arith, full, less)) in
+          omega (arith, beyond)
+      by_length (inr least) =
+          let beyond : limit < length old.done.items + length part = crowd_found g mid.done.items old.done.items done (omega (arith, full, least)) in
+          omega (arith, beyond)
 
 -- ---- each with each
 
@@ -110,9 +130,27 @@ picked_count p k old part =
       ways_count part,
     )
 
-pub sorted_count : (sorted : SequenceOutcomes) (cs : List Choice) (part : List ListedOutcome) → length (both_ways sorted ++ behind cs (choice_lists part)) ≡ length (both_ways sorted) + length part
+pub longer_have : (P : List ListedOutcome → Type 0) (sorted : SequenceOutcomes) → P sorted.done.items → P sorted.more.items → P (longer sorted)
+longer_have P sorted h g = cond_both (ltb (length sorted.done.items) (length sorted.more.items)) sorted.more.items sorted.done.items P (λ less. g) (λ least. h)
+
+pub longer_count : (sorted : SequenceOutcomes) → length (longer sorted) ≡ max (length sorted.done.items) (length sorted.more.items)
+longer_count sorted =
+    let n = length sorted.done.items in
+    let m = length sorted.more.items in
+    cond_both (ltb n m) sorted.more.items sorted.done.items (λ fs. length fs ≡ max n m)
+    (λ less. let below : n < m = ltb-true n m less in omega (arith, below))
+    (λ least. let above : m ≤ n = ltb-false n m least in omega (arith, above))
+
+-- those of the longer list, and of a part upon a set so far
+pub sorted_count : (sorted : SequenceOutcomes) (cs : List Choice) (part : List ListedOutcome) → length (choice_lists (longer sorted) ++ behind cs (choice_lists part)) ≡ length (longer sorted) + length part
 sorted_count sorted cs part =
-    omega (arith, length-append (both_ways sorted) (behind cs (choice_lists part)), length-map (choice_lists part) (λ ds. cs ++ ds), ways_count part)
+    omega (
+      arith,
+      length-append (choice_lists (longer sorted)) (behind cs (choice_lists part)),
+      length-map (choice_lists part) (λ ds. cs ++ ds),
+      ways_count (longer sorted),
+      ways_count part,
+    )
 
 pub both_count : (sorted : SequenceOutcomes) → length (both_ways sorted) ≡ length sorted.done.items + length sorted.more.items
 both_count sorted =
@@ -122,3 +160,15 @@ both_count sorted =
       ways_count sorted.done.items,
       ways_count sorted.more.items,
     )
+
+joined_count : (left right : List (List Choice)) → length (all_joined left right) ≡ length left * length right
+joined_count [] right = omega arith
+joined_count (cs ∷ left) right =
+    let rest : length (all_joined left right) ≡ length left * length right = joined_count left right in
+    omega (arith, rest, length-append (behind cs right) (all_joined left right), length-map right (λ ds. cs ++ ds))
+
+pub beside_count : (left right : List ListedOutcome) → length (all_joined (choice_lists left) (choice_lists right)) ≡ length left * length right
+beside_count left right =
+    let both : length (all_joined (choice_lists left) (choice_lists right)) ≡ length (choice_lists left) * length (choice_lists right) = joined_count (choice_lists left) (choice_lists right) in
+    subst (λ n. length (all_joined (choice_lists left) (choice_lists right)) ≡ n * length right) (ways_count left)
+    (subst (λ n. length (all_joined (choice_lists left) (choice_lists right)) ≡ length (choice_lists left) * n) (ways_count right) both)

@@ -6,7 +6,7 @@
 --     sorted_*                      the next part, upon a set so far
 --     front_*                       the sets so far, while one after the other goes on
 --     closed_*                      the end
-use Rattle.std.proofs.Common.{Vec, Global, ◌≡◌, ℕ, ◌+◌, ◌<◌, ◌≤◌, List, [], ◌∷◌, ◌++◌, length, drop, get_or, sym, ap, subst, ◌∙◌, arith, append_assoc, append-nil}
+use Rattle.std.proofs.Common.{Vec, Global, ◌≡◌, ℕ, ◌+◌, ◌<◌, ◌≤◌, inl, inr, List, [], ◌∷◌, ◌++◌, length, drop, get_or, sym, ap, subst, ◌∙◌, arith, append_assoc, append-nil}
 use Rattle.std.specs.Prelude.{Result as Returned, Ok, Err, IfOk, IfErr}
 use Rattle.std.specs.Result.{IsErrAnd}
 use Rattle.std.proofs.lemmas.List.{drop_all, drop_more}
@@ -16,22 +16,43 @@ use Rattle.asm_explore.specs.declared.outcomes.listed_outcome.ListedOutcome.{Lis
 use Rattle.asm_explore.specs.declared.outcomes.outcomes_error.OutcomesError.{OutcomesError}
 use Rattle.asm_explore.specs.declared.outcomes.outcomes_error.OutcomesError.TheVariants as refusal
 use Rattle.asm_explore.specs.declared.outcomes.sequence_outcomes.SequenceOutcomes.{SequenceOutcomes}
-use Rattle.asm_explore.specs.code.OverLimit.{NamesRule, IsOverLimit, AreDifferent, TakesBefore, AreMany, Refuses}
+use Rattle.asm_explore.specs.code.OverLimit.{NamesRule, IsOverLimit, Differ, AreDifferent, AreDifferentFrom, TakesBefore, Counts, Refuses}
 use Rattle.asm_explore.specs.code.OutcomeLists.{Each, HaveChoices}
-use Rattle.asm_explore.specs.code.Sequences.{BothHave, both_ways, AllDiffer}
+use Rattle.asm_explore.specs.code.Sequences.{BothHave, both_ways, longer, AllDiffer}
 use Rattle.asm_explore.specs.code.ChoiceLists.{choice_lists, AreSomeOf, behind, all_joined, with_choice}
-use Rattle.asm_explore.proofs.ChoiceLemmas.ChoicesCarried.{each_picked, each_both, each_sorted}
+use Rattle.asm_explore.proofs.ChoiceLemmas.ChoicesCarried.{each_picked, each_both}
 use Rattle.asm_explore.proofs.ChoiceLemmas.DifferentChoices.{different_append, different_parts, different_some, different_above, different_swapped, joined_differ, replaced_differ, picked_differ, picked_before}
-use Rattle.asm_explore.proofs.OutcomeLemmas.ChoiceLists.{some_behind, some_each, have_ways, ways_have, joined_each}
+use Rattle.asm_explore.proofs.Elements.{each_append, each_first, each_last, each_weaker}
+use Rattle.asm_explore.proofs.OutcomeLemmas.ChoiceLists.{some_behind, some_each, each_mapped, have_ways, ways_have, joined_each}
+use Rattle.asm_explore.proofs.OutcomeLemmas.FullLists.{ways_count, picked_count, sorted_count, both_count, beside_count, longer_have}
+
+-- ---- the longer list of a sequence
+
+-- with one that is to go on
+longer_differs : (p : Path) (one : ListedOutcome) (sorted : SequenceOutcomes) → AllDiffer p (one ∷ []) sorted → AreDifferent p (one.choices ∷ choice_lists (longer sorted))
+longer_differs p one sorted h =
+    let done = choice_lists sorted.done.items in
+    let more = choice_lists sorted.more.items in
+    let parts = different_parts p done more h.1 in
+    longer_have (λ fs. AreDifferent p (one.choices ∷ choice_lists fs)) sorted
+    (each_first (Differ p one.choices) done more h.0, parts.0)
+    (each_last (Differ p one.choices) done more h.0, parts.1)
 
 -- ---- that there are many
 
 module _ (limit : ℕ) (R : Path → List Choice → Type 0) where
   pub refuses_many : (p : Path) (ways : List (List Choice)) (first others : ℕ) (r : OutcomesError) → NamesRule p first others r → IsOverLimit limit ways r
-      → AreDifferent p ways → Each (R p) ways → Refuses limit R r
-  refuses_many p ways first others refusal.Memory names crowded differ each = tt
-  refuses_many p ways first others (refusal.TooMany crowd) names crowded differ each =
-      subst (λ q. AreMany limit q (R q)) (sym names.0) (record { ways = ways; more = crowded; different = differ; each = each })
+      → Counts p first others (R p) (length ways) → AreDifferent p ways → Each (R p) ways → Refuses limit R r
+  refuses_many p ways first others refusal.Memory names crowded counts differ each = tt
+  refuses_many p ways first others (refusal.TooMany crowd) names crowded counts differ each = record {
+    ways = ways;
+    more = crowded;
+    counts = subst (λ q. Counts q crowd.first crowd.others (R q) (length ways)) (sym names.0)
+        (subst (λ n. Counts p n crowd.others (R p) (length ways)) (sym names.1)
+        (subst (λ n. Counts p first n (R p) (length ways)) (sym names.2) counts));
+    different = subst (λ q. AreDifferent q ways) (sym names.0) differ;
+    each = subst (λ q. Each (R q) ways) (sym names.0) each;
+  }
 
   -- the same refusal is returned
   pub refuses_on : {T : Type 0} (returned : Returned T OutcomesError) (e : OutcomesError) → IsErrAnd returned (λ again. again ≡ e) → Refuses limit R e → IfErr returned (Refuses limit R)
@@ -40,34 +61,53 @@ module _ (limit : ℕ) (R : Path → List Choice → Type 0) where
 
   -- ---- for each kind of list
 
-  pub joined_refuses : (P Q : List Choice → Type 0) (p : Path) (k : ℕ) → ((cs ds : List Choice) → P cs → Q ds → R p (cs ++ ds)) → (left right : List ListedOutcome)
-      → AreDifferent (at p k) (choice_lists left) → AreDifferent p (choice_lists right) → HaveChoices P left → HaveChoices Q right
-      → (first others : ℕ) (r : OutcomesError) → NamesRule p first others r → IsOverLimit limit (all_joined (choice_lists left) (choice_lists right)) r → Refuses limit R r
-  joined_refuses P Q p k both left right differ others_differ h g first others r names crowded =
-      refuses_many p (all_joined (choice_lists left) (choice_lists right)) first others r names crowded
+  pub joined_refuses : (P Q : List Choice → Type 0) (p : Path) (k : ℕ) → ((cs ds : List Choice) → P cs → Q ds → R p (cs ++ ds))
+      → ((cs : List Choice) → P cs → R p cs) → ((ds : List Choice) → Q ds → R p ds) → (left right : List ListedOutcome)
+      → AreDifferent (at p k) (choice_lists left) → AreDifferent p (choice_lists right) → AreDifferentFrom p (k + 1) (choice_lists right) → HaveChoices P left → HaveChoices Q right
+      → (r : OutcomesError) → NamesRule p (length left) (length right) r → IsOverLimit limit (all_joined (choice_lists left) (choice_lists right)) r → Refuses limit R r
+  joined_refuses P Q p k both one other left right differ others_differ after_differ h g r names crowded =
+      refuses_many p (all_joined (choice_lists left) (choice_lists right)) (length left) (length right) r names crowded
+      (inr (
+        beside_count left right,
+        record {
+          number = k;
+          part = choice_lists left;
+          part_count = ways_count left;
+          part_different = differ;
+          part_each = each_weaker P (R p) one (choice_lists left) (have_ways P left h);
+          after = choice_lists right;
+          after_count = ways_count right;
+          after_different = after_differ;
+          after_each = each_weaker Q (R p) other (choice_lists right) (have_ways Q right g);
+        },
+      ))
       (joined_differ p k (choice_lists left) (choice_lists right) differ others_differ)
       (joined_each P Q (R p) both (choice_lists left) (choice_lists right) (have_ways P left h) (have_ways Q right g))
 
   pub picked_refuses : (P : List Choice → Type 0) (p : Path) (k : ℕ) → ((cs : List Choice) → P cs → R p (cs ++ record { path = p; number = k } ∷ [])) → (part old : List ListedOutcome)
       → AreDifferent p (choice_lists old) → HaveChoices (TakesBefore p k) old → AreDifferent (at p 0) (choice_lists part) → HaveChoices P part → HaveChoices (R p) old
-      → (first others : ℕ) (r : OutcomesError) → NamesRule p first others r → IsOverLimit limit (choice_lists old ++ with_choice p k (choice_lists part)) r → Refuses limit R r
-  picked_refuses P p k own part old differ before part_differs h g first others r names crowded =
-      refuses_many p (choice_lists old ++ with_choice p k (choice_lists part)) first others r names crowded
+      → (r : OutcomesError) → NamesRule p (length part) (length old) r → IsOverLimit limit (choice_lists old ++ with_choice p k (choice_lists part)) r → Refuses limit R r
+  picked_refuses P p k own part old differ before part_differs h g r names crowded =
+      refuses_many p (choice_lists old ++ with_choice p k (choice_lists part)) (length part) (length old) r names crowded
+      (inl (omega (arith, picked_count p k old part)))
       (picked_differ p k (choice_lists old) (choice_lists part) differ (have_ways (TakesBefore p k) old before) part_differs)
       (each_picked P (R p) p k own part old h g)
 
   pub sorted_refuses : (P : List Choice → Type 0) (p : Path) (k : ℕ) (one : ListedOutcome) → ((ds : List Choice) → P ds → R p (one.choices ++ ds)) → (part : List ListedOutcome) (sorted : SequenceOutcomes)
       → AllDiffer p (one ∷ []) sorted → AreDifferent (at p k) (choice_lists part) → HaveChoices P part → BothHave (R p) sorted
-      → (first others : ℕ) (r : OutcomesError) → NamesRule p first others r → IsOverLimit limit (both_ways sorted ++ behind one.choices (choice_lists part)) r → Refuses limit R r
-  sorted_refuses P p k one own part sorted differ part_differs h both first others r names crowded =
-      refuses_many p (both_ways sorted ++ behind one.choices (choice_lists part)) first others r names crowded
-      (replaced_differ p k one.choices (both_ways sorted) (choice_lists part) differ part_differs)
-      (each_sorted P (R p) one.choices own part h sorted both)
+      → (r : OutcomesError) → NamesRule p (length part) (length (longer sorted)) r → IsOverLimit limit (choice_lists (longer sorted) ++ behind one.choices (choice_lists part)) r → Refuses limit R r
+  sorted_refuses P p k one own part sorted differ part_differs h both r names crowded =
+      refuses_many p (choice_lists (longer sorted) ++ behind one.choices (choice_lists part)) (length part) (length (longer sorted)) r names crowded
+      (inl (omega (arith, sorted_count sorted one.choices part)))
+      (replaced_differ p k one.choices (choice_lists (longer sorted)) (choice_lists part) (longer_differs p one sorted differ) part_differs)
+      (each_append (R p) (choice_lists (longer sorted)) (behind one.choices (choice_lists part))
+      (have_ways (R p) (longer sorted) (longer_have (HaveChoices (R p)) sorted both.0 both.1))
+      (each_mapped P (R p) (λ ds. one.choices ++ ds) own (choice_lists part) (have_ways P part h)))
 
   pub closed_refuses : (p : Path) (sorted : SequenceOutcomes) → AllDiffer p [] sorted → BothHave (R p) sorted
-      → (first others : ℕ) (r : OutcomesError) → NamesRule p first others r → IsOverLimit limit (both_ways sorted) r → Refuses limit R r
-  closed_refuses p sorted differ both first others r names crowded =
-      refuses_many p (both_ways sorted) first others r names crowded differ (each_both (R p) sorted both)
+      → (r : OutcomesError) → NamesRule p (length sorted.done.items) (length sorted.more.items) r → IsOverLimit limit (both_ways sorted) r → Refuses limit R r
+  closed_refuses p sorted differ both r names crowded =
+      refuses_many p (both_ways sorted) (length sorted.done.items) (length sorted.more.items) r names crowded (inl (both_count sorted)) differ (each_both (R p) sorted both)
 
 -- ---- that the outcomes differ
 

@@ -6,7 +6,7 @@
 --     set_leads, follows_none, follows_more, follows_all
 --                              the outcomes of a step, followed one after the other
 --     looked_*                                    nodes, expanded one after the other
---     search_covers, holds_before                 a whole search covers what runs come to
+--     search_covers, holds_before, holds_with     a whole search covers what runs come to
 --     closure_covers, holds_always                so does one that is closed, however many steps
 --                                                 they have
 use Rattle.std.proofs.Common.{◌≡◌, ℕ, zero, suc, ◌+◌, ◌<◌, ◌≤◌, Bool, true, List, [], ◌∷◌, ◌++◌, length, take, drop, get_or, ◌⊎◌, inl, inr, refl, sym, ap, subst, ◌∙◌, arith, append_assoc, append-nil}
@@ -446,6 +446,19 @@ module _ (shape : Shape) (specification : Specification) (turns : ℕ) (right wi
         }) script k (omega arith) (λ j less. stays j (omega (arith, less))) in
         let A = (run specification turns script k).last in
         let one = both_of (λ n. n.depth < depth → within (state_at shape n) ≡ true → D (state_at shape n)) (λ n. (n.depth ≤ k) × (state_at shape n ≡ A)) nodes each fine.1 in
+        subst D one.2.1 (one.1 (omega (arith, one.2.0, low)) (ap within one.2.1 ∙ stays k (omega arith)))
+
+    -- and what holds of those that are just so deep, too, holds of each state that at most so many
+    -- steps lead to
+    pub holds_with : (D : State → Type 0) → Each (λ n. n.depth ≤ depth → within (state_at shape n) ≡ true → D (state_at shape n)) nodes → HoldsBefore specification turns within D (suc depth)
+    holds_with D each script k low stays =
+        let fine = layers_are_safe specification turns within (Known shape nodes k) k (Known shape nodes) (record {
+          begins = searched.begins;
+          right = λ d A shallow known. known_deeper d k A shallow known;
+          goes_on = λ d A less known inside script step. known_leads d A (omega (arith, less, low)) known inside (record { script = script; step = step });
+        }) script k (omega arith) (λ j less. stays j (omega (arith, less))) in
+        let A = (run specification turns script k).last in
+        let one = both_of (λ n. n.depth ≤ depth → within (state_at shape n) ≡ true → D (state_at shape n)) (λ n. (n.depth ≤ k) × (state_at shape n ≡ A)) nodes each fine.1 in
         subst D one.2.1 (one.1 (omega (arith, one.2.0, low)) (ap within one.2.1 ∙ stays k (omega arith)))
 
 -- ---- a search that is closed covers every depth

@@ -1,8 +1,8 @@
 -- Free. Lists of the quiet nodes.
 --     just_more, just_next         one more element, which isn't listed, or is
---     just_none, just_first        if none is listed, and what the first one is
+--     just_first                   what the first one is that is listed
 --     rested_*                     nodes, looked at one after the other
---     alive_whole, quiet_none, first_quiet      what the list says once the search has ended
+--     alive_whole, first_quiet     what the list says once the search has ended
 use Rattle.std.proofs.Common.{◌≡◌, ℕ, zero, suc, ◌+◌, ◌<◌, ◌≤◌, Bool, true, List, [], ◌∷◌, ◌++◌, length, take, drop, get_or, ◌⊎◌, inl, inr, refl, sym, ap, subst, ◌∙◌, arith}
 use Rattle.std.specs.Prelude.{slice_get, Some}
 use Rattle.std.proofs.lemmas.List.{take_all, take_more, take-append-le, take-append-drop}
@@ -41,11 +41,6 @@ module _ {X : Type 0} (P : X → Type 0) where
           subst (λ n. AreJust P (suc k) (xs ++ x ∷ []) (h.1.0 ++ n ∷ [])) place (just_next (suc k) xs h.1.0 x so h.1.2),
         ),
       )
-
-  pub just_none : (k : ℕ) (xs : List X) → AreJust P k xs [] → Each (λ x. ¬ (P x)) xs
-  just_none k [] just = tt
-  just_none k (x ∷ xs) (inl h) = (h.0, just_none (suc k) xs h.1)
-  just_none k (x ∷ xs) (inr h) = cc
 
   -- the first one that is listed
   pub just_first : (k : ℕ) (xs : List X) (i : ℕ) (ks : List ℕ) → AreJust P k xs (i ∷ ks)
@@ -147,15 +142,9 @@ module _ (shape : Shape) (specification : Specification) (turns : ℕ) (rests wi
   alive_all i nodes quiet past rested =
       subst (Each (Lives depth)) (take_all i nodes past) (each_weaker IsAlive (Lives depth) (λ n alive deep inside. alive (deep, inside)) (take i nodes) rested.alive)
 
-  pub quiet_none : (i : ℕ) (nodes : List Node) (quiet : List ℕ) → length nodes ≤ i → quiet ≡ [] → IsRested shape specification turns rests within depth i nodes quiet
-      → Each (λ n. n.depth < depth → within (state_at shape n) ≡ true → ¬ (IsQuiet specification turns (state_at shape n))) nodes
-  quiet_none i nodes quiet past none rested =
-      subst (Each (Moves depth)) (take_all i nodes past) (each_weaker (λ n. ¬ (IsListed n)) (Moves depth) (λ n no deep inside still. no ((deep, inside), still)) (take i nodes)
-      (just_none IsListed 0 (take i nodes) (subst (AreJust IsListed 0 (take i nodes)) none rested.just)))
-
   -- ---- the first one
 
-  each_got_of : {X : Type 0} (P : X → Type 0) (xs : List X) → ((k : ℕ) (x : X) → slice_get xs k ≡ Some x → P x) → Each P xs
+  pub each_got_of : {X : Type 0} (P : X → Type 0) (xs : List X) → ((k : ℕ) (x : X) → slice_get xs k ≡ Some x → P x) → Each P xs
   each_got_of P [] all = tt
   each_got_of P (x ∷ xs) all = (all 0 x refl, each_got_of P xs (λ k y there. all (suc k) y there))
 

@@ -1,7 +1,7 @@
 -- Bridge to the code. The main rule of a checked specification, if its step has too many outcomes.
 --     IsMainOverLimit checked turns limit A crowd
---                        it makes more lists of choices than the limit says, in the step from a
---                        state
+--                        it makes more lists of choices than the limit says, as many as both
+--                        numbers come to, in the step from a state
 use Rattle.std.specs.Prelude.{ℕ}
 use Rattle.asm_state.specs.Location.{State}
 use Rattle.asm_syntax.specs.code.Views.{spec_of}

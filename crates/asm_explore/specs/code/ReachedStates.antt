@@ -184,4 +184,5 @@ module _ (shape : Shape) where
       pub closed : looked.ended ≡ ended.Closed → Each (λ n. n.depth < depth) nodes
       pub wrong : IfBad looked.ended (λ bad. IsBad right rests nodes bad × (bad.from ≡ looked.expanded) × ((n : Node) → slice_get nodes bad.from ≡ Some n → (n.depth < depth) × (within (state_at n) ≡ true)))
       pub full : looked.ended ≡ ended.TooManyStates → limit ≤ length nodes
+      pub near : looked.ended ≡ ended.TooManyStates → (n : Node) × (slice_get nodes looked.expanded ≡ Some n) × (n.depth < depth) × Each (λ m. m.depth ≤ n.depth + 1) nodes
       pub crowded : IfOverLimit looked.ended (λ crowd. (n : Node) × (slice_get nodes looked.expanded ≡ Some n) × (n.depth < depth) × crowds (state_at n) crowd)

@@ -9,12 +9,13 @@
 --     ComesOf                 an outcome comes of one of the next part
 --     BothHave P sorted       the choices of each outcome that is sorted are so
 --     both_ways sorted        the choices of those that are done, and of those that go on
+--     longer sorted           those that are done, or those that go on if they are more
 --     AllDiffer p fs sorted   each two of these and those take different candidates
 --     Underway                what stays true from part to part: each situation has its whole
 --                             outcome among those that are done, or the set so far among those that
 --                             go on
 --     EndsLists, EndsSequence    what a call promises that ends a sequence
-use Rattle.std.specs.Prelude.{◌≡◌, ◌<◌, ℕ, ◌+◌, Bool, false, cond, not, ◌&&◌, ◌||◌, List, ◌⊎◌, ◌++◌, length, Result as Returned, IfOk, IfErr}
+use Rattle.std.specs.Prelude.{◌≡◌, ◌<◌, ℕ, ◌+◌, Bool, false, cond, ltb, not, ◌&&◌, ◌||◌, List, ◌⊎◌, ◌++◌, length, Result as Returned, IfOk, IfErr}
 use Rattle.std.proofs.Common.{Vec, Global}
 use Rattle.asm_state.specs.Location.{State}
 use Rattle.asm_state.specs.Signature.{Shape, count_of}
@@ -72,6 +73,9 @@ BothHave P sorted = HaveChoices P sorted.done.items × HaveChoices P sorted.more
 
 abbrev pub both_ways : SequenceOutcomes → List (List Choice)
 both_ways sorted = choice_lists sorted.done.items ++ choice_lists sorted.more.items
+
+abbrev pub longer : SequenceOutcomes → List ListedOutcome
+longer sorted = cond (ltb (length sorted.done.items) (length sorted.more.items)) sorted.more.items sorted.done.items
 
 -- with others, which are still to go on
 abbrev pub AllDiffer : Path → List ListedOutcome → SequenceOutcomes → Type 0

@@ -1,13 +1,11 @@
 -- Bridge to the code. The outcomes of the step from a state.
 --     IsStep A fs            a list has what the step from a state yields, with choices at paths of
 --                            their own
---     IsOverLimitOf A crowd  more lists of choices than the limit says, each two of which take
---                            different candidates of some choose at the path that is named or below
---                            it, are made by the step from a state, each in each situation that
---                            takes it
---     IsListed A r           of a state there is such a list, or none: then there are more lists of
---                            choices than the limit says, each two take different candidates of
---                            some choose, and each is made in each situation that takes it
+--     IsOverLimitOf A crowd  more lists of choices than the limit says, as many as both numbers
+--                            come to, added or multiplied, are made by the step from a state, each
+--                            in each situation that takes it; each two take different candidates of
+--                            some choose at the path that is named or below it
+--     IsListed A r           of a state there is such a list, or a refusal that says this
 use Rattle.std.specs.Prelude.{ℕ, List, Result as Returned, IfOk, IfErr}
 use Rattle.std.proofs.Common.{Vec, Global}
 use Rattle.asm_state.specs.Location.{State}
@@ -24,7 +22,7 @@ use Rattle.asm_explore.specs.code.ReachedStates.{steps_from}
 
 -- the step from a state has too many outcomes: of the rule at the path that is named
 abbrev pub IsOverLimitOf : (makes : State → Situation → List Choice) → (limit : ℕ) → State → RuleOverLimit → Type 0
-IsOverLimitOf makes limit A crowd = AreMany limit crowd.path (λ cs. HaveOwnPaths cs × AreMade (makes A) cs)
+IsOverLimitOf makes limit A crowd = AreMany limit crowd (λ cs. HaveOwnPaths cs × AreMade (makes A) cs)
 
 module _ (shape : Shape) (specification : Specification) (turns : ℕ) where
   pub record IsStep (A : State) (fs : List ListedOutcome) : Type 0 where

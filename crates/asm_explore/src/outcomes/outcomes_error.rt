@@ -11,9 +11,9 @@ use std::alloc::{AllocError, AllocFailed, Global};
 pub struct RuleOverLimit {
     /// The path of the rule.
     pub path: Path,
-    /// How many outcomes its part has, the candidate, or what has ended.
+    /// How many outcomes its part has, or the candidate, or how many have ended.
     pub first: usize,
-    /// How many those have that are beside it, or go on.
+    /// How many the parts after it have together, or the list has to which they are added.
     pub others: usize,
 }
 

@@ -8,7 +8,7 @@ ghost use Rattle.asm_state.specs.Updates.{none};
 ghost use Rattle.asm_explore.specs.code.OverLimit.{NamesRule, IfTooMany, IsOverLimit};
 ghost use Rattle.asm_explore.specs.code.OutcomeLists.{Situation, HaveChoices, AreCounted, IsPicked, Lists};
 ghost use Rattle.asm_explore.specs.code.ChoicePaths.{LieBelow, IsPlacedFrom};
-ghost use Rattle.asm_explore.specs.code.Sequences.{both_ways, SortsAll, EndsSequence};
+ghost use Rattle.asm_explore.specs.code.Sequences.{longer, SortsAll, EndsSequence};
 ghost use Rattle.asm_explore.specs.code.ChoiceLists.{choice_lists, AreSomeOf, behind, all_joined, with_choice};
 ghost use Rattle.asm_explore.specs.declared.outcomes.listed_outcome.Choice.{Choice};
 
@@ -129,10 +129,10 @@ pub(crate) fn add_part_of_sequence(
     requires so_far { so_far.now.set.count ≡ count_of signature.now }
     requires part { AreCounted (count_of signature.now) part.items }
     ensures sorts { OnOk result (SortsAll signature.now turns so_far.now.set one.now.choices part.items sorted.old sorted.new) }
-    ensures names { IfErr result (NamesRule path.now (length part.items) (length sorted.old.more.items)) }
-    ensures crowd { IfErr result (IsOverLimit limit (both_ways sorted.old ++ behind one.now.choices (choice_lists part.items))) }
+    ensures names { IfErr result (NamesRule path.now (length part.items) (length (longer sorted.old))) }
+    ensures crowd { IfErr result (IsOverLimit limit (choice_lists (longer sorted.old) ++ behind one.now.choices (choice_lists part.items))) }
 {
-    let (first, others) = (part.len(), sorted.more.len());
+    let (first, others) = (part.len(), sorted.longer());
     match sequence_outcomes::add_part_of_sequence(
         alloc, signature, so_far, one, part, turns, limit, sorted,
     ) {

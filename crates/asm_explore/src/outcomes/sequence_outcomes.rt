@@ -1,12 +1,12 @@
 //! How a sequence goes on: the sets so far, and what a part yields upon one of them.
-ghost use Rattle.std.specs.Prelude.{◌≡◌, ◌+◌, ◌≤◌, ◌<◌, ◌++◌, length, IfOk, IfErr, OnOk};
+ghost use Rattle.std.specs.Prelude.{◌≡◌, ◌+◌, ◌≤◌, ◌<◌, ◌++◌, length, max, IfOk, IfErr, OnOk};
 ghost use Rattle.asm_state.specs.Signature.{count_of};
 ghost use Rattle.asm_state.specs.Updates.{none};
 ghost use Rattle.asm_meaning.specs.Yields.{Gives, Exhausted};
 ghost use Rattle.asm_explore.specs.declared.outcomes.listed_outcome.RuleResult.TheVariants as answer;
 ghost use Rattle.asm_explore.specs.code.OverLimit.{IfTooMany};
 ghost use Rattle.asm_explore.specs.code.OutcomeLists.{AreCounted, IsCounted};
-ghost use Rattle.asm_explore.specs.code.Sequences.{both_ways, Sorts, SortsAll, AddsOutcome, Exhausts, EndsLists};
+ghost use Rattle.asm_explore.specs.code.Sequences.{longer, Sorts, SortsAll, AddsOutcome, Exhausts, EndsLists};
 ghost use Rattle.asm_explore.specs.code.ChoiceLists.{choice_lists, behind};
 
 use crate::outcomes::add_outcome::add_outcome;
@@ -28,6 +28,15 @@ pub(crate) struct SequenceOutcomes {
     pub more: Vec<ListedOutcome>,
 }
 
+impl SequenceOutcomes {
+    /// How many outcomes the longer list has.
+    pub fn longer(&self) -> usize
+        ensures { result ≡ length (longer self.now) }
+    {
+        self.done.len().max(self.more.len())
+    }
+}
+
 /// Adds what comes of an outcome of the next part, upon a set so far with its choices.
 fn add_one_of_part(
     alloc: Global,
@@ -42,7 +51,7 @@ fn add_one_of_part(
     requires so_far { so_far.now.set.count ≡ count_of signature.now }
     requires one { IsCounted (count_of signature.now) one.now.answer }
     ensures sorts { OnOk result (Sorts signature.now turns so_far.now.set choices.now one.now sorted.old sorted.new) }
-    ensures crowd { IfErr result (IfTooMany (limit ≤ length (both_ways sorted.old))) }
+    ensures crowd { IfErr result (IfTooMany (limit ≤ max (length sorted.old.done.items) (length sorted.old.more.items))) }
 {
     let choices = both_choices(alloc, choices, &one.choices)?;
     match &one.answer {
@@ -95,7 +104,7 @@ fn add_all_of_part(
     requires so_far { so_far.now.set.count ≡ count_of signature.now }
     requires part { AreCounted (count_of signature.now) part.now }
     ensures sorts { OnOk result (SortsAll signature.now turns so_far.now.set choices.now part.now sorted.old sorted.new) }
-    ensures crowd { IfErr result (IfTooMany (limit < length (both_ways sorted.old) + length part.now)) }
+    ensures crowd { IfErr result (IfTooMany (limit < max (length sorted.old.done.items) (length sorted.old.more.items) + length part.now)) }
 {
     for i in 0..part.len() {
         add_one_of_part(
@@ -119,7 +128,7 @@ pub(crate) fn add_part_of_sequence(
     requires so_far { so_far.now.set.count ≡ count_of signature.now }
     requires part { AreCounted (count_of signature.now) part.items }
     ensures sorts { OnOk result (SortsAll signature.now turns so_far.now.set one.now.choices part.items sorted.old sorted.new) }
-    ensures crowd { IfErr result (IfTooMany (limit < length (both_ways sorted.old ++ behind one.now.choices (choice_lists part.items)))) }
+    ensures crowd { IfErr result (IfTooMany (limit < length (choice_lists (longer sorted.old) ++ behind one.now.choices (choice_lists part.items)))) }
 {
     let choices = &one.choices;
     let outcomes = part.as_slice();

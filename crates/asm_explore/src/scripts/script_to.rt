@@ -6,7 +6,7 @@ ghost use Rattle.asm_reader.specs.ScriptText.{IsScript};
 ghost use Rattle.asm_explore.specs.code.OutcomeLists.{Each};
 ghost use Rattle.asm_explore.specs.code.ChoicePaths.{HaveOwnPaths};
 ghost use Rattle.asm_explore.specs.code.ScriptTo.{lines_for, lines_of, needed};
-ghost use Rattle.asm_explore.specs.code.WrittenScripts.{IsTextRefusal, lines_said, lines_text, numbers_in};
+ghost use Rattle.asm_explore.specs.code.WrittenScripts.{IsTextOf, IsTextRefusal, lines_said, lines_text, numbers_in};
 
 use crate::laws::script_law;
 use crate::outcomes::listed_outcome::Choice;
@@ -54,6 +54,7 @@ pub(crate) fn script_to(
     back: &[Vec<Choice>],
 ) -> Result<String, InputError<WritingError>>
     requires { Each HaveOwnPaths (map (λ cs. cs.items) back.now) }
+    ensures text { IfOk result (λ text. IsTextOf (needed (lines_of (map (λ cs. cs.items) back.now))) (string_bytes text)) }
     ensures script { IfOk result (λ text. IsScript (string_bytes text) (exactly (needed (lines_of (map (λ cs. cs.items) back.now))))) }
     ensures refused { let lines = needed (lines_of (map (λ cs. cs.items) back.now)) in
         IfErr result (IsTextRefusal (numbers_in lines) (lines_text lines)) }

@@ -1,5 +1,8 @@
 //! An index of states by their hashes.
 ghost use Rattle.std.specs.Prelude.{◌≡◌, ◌<◌, length};
+ghost use Rattle.asm_state.specs.code.Contents.{IsStateOf};
+ghost use Rattle.asm_state.specs.Signature.{Shape, state_of};
+ghost use Rattle.asm_explore.specs.code.DifferentStates.{hash_below, next_hash};
 
 use asm_state::state::State;
 use std::alloc::Global;
@@ -67,13 +70,17 @@ pub(crate) const NO_CONTENTS: u64 = 0x9E37_79B9_7F4A_7C15;
 
 /// The hash of contents and one more after them, by its code.
 #[inline(always)]
-pub(crate) fn with_content(hash: u64, code: u64) -> u64 {
+#[tactic(auto, unfolding(crate::specs::code::DifferentStates::next_hash))]
+pub(crate) fn with_content(hash: u64, code: u64) -> u64
+    ensures { result ≡ next_hash hash code }
+{
     (hash.rotate_left(5) ^ code).wrapping_mul(0x517C_C1B7_2722_0A95)
 }
 
 /// The hash of a state's contents.
 pub(crate) fn hash_of(state: &State, count: usize) -> u64
     requires { length state.now ≡ count }
+    ensures { (shape : Shape) → IsStateOf shape state.now → result ≡ hash_below shape (state_of shape state.now) count }
 {
     let mut hash = NO_CONTENTS;
     for n in 0..count {

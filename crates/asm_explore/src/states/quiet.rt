@@ -1,10 +1,12 @@
 //! Quiet states: the step from one changes nothing, whatever is chosen.
-ghost use Rattle.std.specs.Prelude.{◌≡◌, ◌<◌, ◌↔◌, [], IsTrue, IfOk, IfErr, IfSome};
+ghost use Rattle.std.specs.Prelude.{◌≡◌, ◌<◌, ◌↔◌, ℕ, [], IsTrue, IfOk, IfErr, IfSome};
 ghost use Rattle.asm_state.specs.code.Contents.{IsStateOf};
-ghost use Rattle.asm_state.specs.Signature.{state_of};
+ghost use Rattle.asm_state.specs.Signature.{count_of, state_of};
+ghost use Rattle.asm_meaning.specs.Run.{Specification};
 ghost use Rattle.asm_explore.specs.declared.fault.Fault.TheVariants as fault;
 ghost use Rattle.asm_explore.specs.code.SearchEnds.{HaltsSo};
 ghost use Rattle.asm_explore.specs.code.AddedNodes.{ListsQuiet};
+ghost use Rattle.asm_explore.specs.code.OutcomeLists.{AreCounted};
 ghost use Rattle.asm_explore.specs.Search.{IsQuiet, IsDeadlock};
 ghost use Rattle.asm_explore.specs.code.StepOutcomes.{IsStep};
 
@@ -14,11 +16,33 @@ use crate::outcomes::listed_outcome::ListedOutcome;
 use crate::search_error::SearchError;
 use crate::search_result::BadStep;
 use crate::states::trail::leads;
+use asm_state::signature::Signature;
 use asm_state::state::State;
 use std::alloc::{AllocError, Global};
 
+/// Whether each of these outcomes leaves a state as it is.
+pub(crate) fn all_stay(
+    alloc: Global,
+    signature: &Signature,
+    state: &State,
+    outcomes: &[ListedOutcome],
+) -> Result<bool, AllocError>
+    requires state { IsStateOf signature.now state.now }
+    requires counted { AreCounted (count_of signature.now) outcomes.now }
+    ensures { IfOk result (λ so. (specification : Specification) (turns : ℕ) → IsStep signature.now specification turns (state_of signature.now state.now) outcomes.now →
+        IsTrue so ↔ IsQuiet specification turns (state_of signature.now state.now)) }
+{
+    for k in 0..outcomes.len() {
+        let one = &outcomes[k];
+        if !leads(alloc, signature, one, state, state)? {
+            return Ok(false);
+        }
+    }
+    Ok(true)
+}
+
 /// Whether each outcome of the step from a state leaves it as it is.
-pub(crate) fn is_quiet<M: Machine>(
+pub fn is_quiet<M: Machine>(
     alloc: Global,
     machine: &M,
     state: &State,
@@ -28,14 +52,7 @@ pub(crate) fn is_quiet<M: Machine>(
     requires step { IsStep (M.shape machine.now) (M.specification machine.now) (M.turns machine.now) (state_of (M.shape machine.now) state.now) outcomes.now }
     ensures { IfOk result (λ so. IsTrue so ↔ IsQuiet (M.specification machine.now) (M.turns machine.now) (state_of (M.shape machine.now) state.now)) }
 {
-    let signature = machine.signature();
-    for k in 0..outcomes.len() {
-        let one = &outcomes[k];
-        if !leads(alloc, signature, one, state, state)? {
-            return Ok(false);
-        }
-    }
-    Ok(true)
+    all_stay(alloc, machine.signature(), state, outcomes)
 }
 
 /// Lists the number of a node if its state is quiet, as is told. Returns what is wrong with it if a

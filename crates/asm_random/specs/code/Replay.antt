@@ -3,14 +3,16 @@
 --                                                      consistent set, which leads to the other
 --     IsAfter specification turns script n A           the run of n steps comes to its limit, in
 --                                                      this state
---     GoesWrong .. right step A f                      the step from the state has this fault, or
---                                                      leads to a state that isn't right
---     MakesStep .. right step shape old ended          the contents that the step leads to, or how
+--     GoesWrong .. right dead step A f                 the step from the state has this fault, or
+--                                                      leads to a state that isn't right, or stays
+--                                                      in a dead one
+--     MakesStep .. contents step shape old ended       the contents that the step leads to, or how
 --                                                      it goes wrong
-use Rattle.std.specs.Prelude.{◌≡◌, ℕ, Bool, false, List, [], length, Result as Returned, IfErr, IfOk}
+use Rattle.std.specs.Prelude.{◌≡◌, ℕ, Bool, false, List, [], Result as Returned, IfErr, IfOk}
+use Rattle.asm_state.specs.code.Contents.{IsStateOf}
 use Rattle.asm_state.specs.declared.value.Value.{Value}
 use Rattle.asm_state.specs.Location.{State}
-use Rattle.asm_state.specs.Signature.{Shape, count_of, state_of}
+use Rattle.asm_state.specs.Signature.{Shape, state_of}
 use Rattle.asm_state.specs.Updates.{UpdateSet, IsConsistent, fire}
 use Rattle.asm_reader.specs.ScriptLines.{Script}
 use Rattle.asm_meaning.specs.Does.{does}
@@ -30,14 +32,15 @@ module _ (specification : Specification) (turns : ℕ) (script : Script) where
   abbrev pub IsAfter : (n : ℕ) → State → Type 0
   IsAfter n A = ((run specification turns script n).end ≡ AtLimit) × ((run specification turns script n).last ≡ A)
 
-  abbrev pub GoesWrong : (right : State → Bool) → (step : ℕ) → State → Fault → Type 0
-  GoesWrong right step A fault.Exhausted = (q : Path) × (yields step A ≡ Exhausted q)
-  GoesWrong right step A fault.Inconsistent = (U : UpdateSet) × (yields step A ≡ Gives U) × ¬ (IsConsistent U)
-  GoesWrong right step A fault.Wrong = (B : State) × IsStep step A B × (right B ≡ false)
-  GoesWrong right step A fault.Deadlock = ⊥
+  module _ (right : State → Bool) (dead : State → Type 0) where
+    abbrev pub GoesWrong : (step : ℕ) → State → Fault → Type 0
+    GoesWrong step A fault.Exhausted = (q : Path) × (yields step A ≡ Exhausted q)
+    GoesWrong step A fault.Inconsistent = (U : UpdateSet) × (yields step A ≡ Gives U) × ¬ (IsConsistent U)
+    GoesWrong step A fault.Wrong = (B : State) × IsStep step A B × (right B ≡ false)
+    GoesWrong step A fault.Deadlock = (B : State) × IsStep step A B × (B ≡ A) × dead B
 
-  -- the step from a state with these contents
-  pub record MakesStep (right : State → Bool) (number : ℕ) (shape : Shape) (old : List Value) (ended : Returned (List Value) Fault) : Type 0 where
-    pub whole : IfOk ended (λ B. length B ≡ count_of shape)
-    pub step : IfOk ended (λ B. IsStep number (state_of shape old) (state_of shape B))
-    pub wrong : IfErr ended (GoesWrong right number (state_of shape old))
+    -- the step from a state with these contents
+    pub record MakesStep {X : Type 0} (contents : X → List Value) (step : ℕ) (shape : Shape) (old : List Value) (ended : Returned X Fault) : Type 0 where
+      pub kept : IfOk ended (λ x. IsStateOf shape (contents x))
+      pub leads : IfOk ended (λ x. IsStep step (state_of shape old) (state_of shape (contents x)))
+      pub wrong : IfErr ended (GoesWrong step (state_of shape old))

@@ -1,18 +1,19 @@
 -- Bridge to the code. What is kept when a run is made shorter.
 --     IsWrongFor m most run      the run goes wrong that is looked for, in one of `most` steps
---     StaysWrong m old new       if the one does, the other does
-use Rattle.std.specs.Prelude.{ℕ}
-use Rattle.asm_syntax.specs.code.Views.{spec_of}
-use Rattle.asm_check.specs.Shapes.{shape_of}
-use Rattle.asm_meaning.specs.Declarations.{specification_of}
-use Rattle.asm_explore.specs.code.ResolvedConditions.{holds_in}
+--     StaysWrong m old new       if the one does, the other does, in no later step; if the one ends
+--                                in a deadlock, so does the other, and if not, it doesn't
+use Rattle.std.specs.Prelude.{◌≡◌, ◌≤◌, ℕ}
 use Rattle.asm_explore.specs.declared.resolved_question.ResolvedQuestion.{ResolvedQuestion}
 use Rattle.asm_random.specs.RandomResults.{IsBadDraft}
 use Rattle.asm_random.specs.declared.bad_draft.BadDraft.{BadDraft}
+use Rattle.asm_random.specs.code.FaultKinds.{is_deadlock}
+use Rattle.asm_random.specs.code.ResolvedRuns.{rests_in, right_in, specification_in}
 
 module _ (m : ResolvedQuestion) where
   abbrev pub IsWrongFor : (most : ℕ) → BadDraft → Type 0
-  IsWrongFor most run = let s = spec_of m.checked.now.spec in IsBadDraft (specification_of s) m.turns most (holds_in (shape_of s) m.always.now) run
+  IsWrongFor most run = IsBadDraft (specification_in m) m.turns most (right_in m) (rests_in m) run
 
-  abbrev pub StaysWrong : (old new : BadDraft) → Type 0
-  StaysWrong old new = (most : ℕ) → IsWrongFor most old → IsWrongFor most new
+  pub record StaysWrong (old new : BadDraft) : Type 0 where
+    pub wrong : (most : ℕ) → IsWrongFor most old → IsWrongFor most new
+    pub no_later : new.wrong.step ≤ old.wrong.step
+    pub kind : is_deadlock new.wrong.fault ≡ is_deadlock old.wrong.fault

@@ -1,55 +1,105 @@
-use Rattle.std.proofs.Common.{◌≡◌, ◌≤◌, ◌∙◌, ℕ, map, length, refl, ap, sym, subst, arith, Vec, Global}
+use Rattle.std.proofs.Common.{◌≡◌, ◌≤◌, ◌+◌, ◌∙◌, ℕ, suc, [], refl, map, take, length, true, ap, sym, subst, arith, Vec, Global}
+use Rattle.std.specs.Prelude.{Some}
 use Rattle.std.proofs.lemmas.List.{length-map}
-use Rattle.asm_explore.specs.declared.search_result.SearchEnd.TheVariants as ended
-use Rattle.asm_explore.specs.ExplorationResults.{Claims}
+use Rattle.asm_state.specs.code.Contents.{IsStateOf}
+use Rattle.asm_state.specs.Signature.{count_of}
+use Rattle.asm_explore.specs.ExplorationResults.{Claims, IsLookedThrough, IsSafeIf, beyond, known_to}
+use Rattle.asm_explore.specs.Search.{IsQuiet}
+use Rattle.asm_explore.specs.StateLists.{Counts, IsAmongFirst}
+use Rattle.asm_explore.specs.code.DifferentStates.{IsFullFinding}
+use Rattle.asm_explore.specs.code.ListElements.{Each}
+use Rattle.asm_explore.specs.code.PackedNodes.{Node}
 use Rattle.asm_explore.specs.code.SearchEnds.{IfOverLimit}
-use Rattle.asm_explore.specs.code.ReachedStates.{AtNode, state_at}
+use Rattle.asm_explore.specs.code.ReachedStates.{AtNode, IsGood, state_at}
 use Rattle.asm_explore.specs.code.StepOutcomes.{IsOverLimitOf}
-use Rattle.asm_explore.proofs.StateLemmas.RunsToNodes.{node_reached, nodes_reached}
-use Rattle.asm_explore.proofs.StateLemmas.Batches.{no_items}
+use Rattle.asm_explore.proofs.FullFindings.{full_claims, full_through}
+use Rattle.asm_explore.proofs.OutcomeLemmas.ListLemmas.{each_weaker}
+use Rattle.asm_explore.proofs.StateLemmas.LookedStates.{holds_less}
 use Rattle.asm_explore.proofs.StateLemmas.MoreNodes.{each_got}
+use Rattle.asm_explore.proofs.StateLemmas.RunsToNodes.{node_reached, nodes_reached}
 use Rattle.asm_explore.proofs.explore_machine.explore_machine.Goals as goal
 use Rattle.asm_explore.proofs.explore_machine.explore_machine.Goals.{in-Closed, in-AtLimit, in-BadStep+in_ok-finding-in-BadStep, in-TooManyStates, in-TooManyOutcomes, in-Memory}
+
+pub too_many_states-finding-requires-clause-like : goal.too_many_states-finding-requires-clause-like
+too_many_states-finding-requires-clause-like g c = c.requires.kept.whole ∙ ap count_of (sym c.signature.ensures)
+
+pub too_many_states-finding-requires-clause-nodes : goal.too_many_states-finding-requires-clause-nodes
+too_many_states-finding-requires-clause-nodes g c =
+    let shape = g.M.Machine.shape c.args.machine.now in
+    let nodes = c.in_ok-nodes.field-0.nodes in
+    subst (λ s. Each (λ (n : Node). IsStateOf s n.state) nodes) (sym c.signature.ensures)
+    (each_weaker (IsGood shape (g.M.Machine.right c.args.machine.now)) (λ n. IsStateOf shape n.state) (λ n good. good.kept) nodes c.in_ok-nodes.ensures.nodes.0)
+
+pub returns-then-not-is_right : goal.returns-then-not-is_right
+returns-then-not-is_right g c = record {
+  reached = [];
+  count = refl;
+  reach = tt;
+  found = ap (g.M.Machine.right c.args.machine.now) (sym c.requires.initial) ∙ (sym c.is_right.ensures ∙ c.if-not-is_right.true);
+  looked = 0;
+  quiet = refl;
+  through = tt;
+  rest = tt;
+}
 
 pub returns : goal.returns
 returns g c =
     let a = c.args in
     let explored = c.in_ok-nodes.ensures in
-    let states = c.len.result in
+    let result = c.in_ok-nodes.field-0 in
     let crowds = IsOverLimitOf (g.M.Machine.made a.machine.now) (g.M.Machine.limit a.machine.now) in
-    let claims = Claims (g.M.Machine.specification a.machine.now) (g.M.Machine.turns a.machine.now) crowds a.steps a.limit (g.M.Machine.right a.machine.now) (g.M.Machine.rests a.machine.now) (g.M.Machine.within a.machine.now) states in
     let shape = g.M.Machine.shape a.machine.now in
     let specification = g.M.Machine.specification a.machine.now in
     let turns = g.M.Machine.turns a.machine.now in
+    let right = g.M.Machine.right a.machine.now in
+    let rests = g.M.Machine.rests a.machine.now in
     let within = g.M.Machine.within a.machine.now in
-    let nodes = c.in_ok-nodes.field-0.nodes in
+    let nodes = result.nodes in
+    let states = map (state_at shape) nodes in
+    let looked = IsAmongFirst explored.through.looked states in
+    let claims = Claims specification turns crowds a.steps a.limit right rests within states in
+    let through = IsLookedThrough specification turns within looked in
+    let safe_if = IsSafeIf specification turns crowds a.steps a.limit right rests within in
+    let known = holds_less specification turns within looked (known_to result.safe) result.whole explored.known explored.through.before in
+    let quiet : c.len-2.result ≡ length result.quiet.items =
+    omega (arith, c.len-2.ensures, result.quiet.ok.0, c.in_ok-nodes.quiet.ok.0, ap (λ (q : Vec ℕ Global). length q.items) c.in_ok-nodes.quiet-is) in
     record {
-      found = elim c.match-ended.branch [
-        | in-Closed w ↦ subst claims (sym w.finding-is) (explored.closed w.in-Closed.is, explored.always_alive w.in-Closed.is)
-        | in-AtLimit w ↦ subst claims (sym w.finding-is) (explored.at_limit w.in-AtLimit.is, (explored.safe, explored.alive))
-        | in-BadStep+in_ok-finding-in-BadStep w ↦ subst claims (sym w.finding-is) (w.in_ok-finding-in-BadStep.ensures.claims a.limit states)
-        | in-TooManyStates w ↦ subst claims (sym w.finding-is)
-            (subst (λ n. a.limit ≤ n) (sym c.len.ensures) (explored.full w.in-TooManyStates.is), (explored.safe, explored.alive))
-        | in-TooManyOutcomes w ↦ subst claims (sym w.finding-is) (
-          (explored.safe, explored.alive),
-          let at = subst (λ e. IfOverLimit e (AtNode shape crowds nodes c.in_ok-nodes.field-0.expanded c.in_ok-nodes.field-0.whole)) w.in-TooManyOutcomes.is explored.crowded in
-              (state_at shape at.0, node_reached shape specification turns within nodes explored.nodes.1 explored.inside c.in_ok-nodes.field-0.whole c.in_ok-nodes.field-0.expanded at.0 at.1 at.2, at.3),
-        )
-        | in-Memory w ↦ subst claims (sym w.finding-is) (explored.safe, explored.alive)
-      ];
-      reached = map (state_at shape) nodes;
+      reached = states;
       count = length-map nodes (state_at shape) ∙ sym c.len.ensures;
       reach = nodes_reached shape specification turns within nodes explored.nodes.1 explored.inside c.greatest_depth.result
           (λ i n there. each_got (λ n. n.depth ≤ c.greatest_depth.result) nodes i n c.greatest_depth.ensures there);
-      lively = λ closed none.
-          let ended : c.in_ok-nodes.field-0.ended ≡ ended.Closed = elim c.match-ended.branch [
-            | in-Closed w ↦ w.in-Closed.is
-            | in-AtLimit w ↦ let not = sym closed ∙ w.finding-is in cc
-            | in-BadStep+in_ok-finding-in-BadStep w ↦ absurd (w.in_ok-finding-in-BadStep.ensures.never (sym w.finding-is ∙ closed))
-            | in-TooManyStates w ↦ let not = sym closed ∙ w.finding-is in cc
-            | in-TooManyOutcomes w ↦ let not = sym closed ∙ w.finding-is in cc
-            | in-Memory w ↦ let not = sym closed ∙ w.finding-is in cc
-          ] in
-          explored.lively ended (no_items c.in_ok-nodes.field-0.quiet.items c.in_ok-nodes.field-0.quiet.items refl (omega (arith, none, c.len-2.ensures, c.in_ok-nodes.field-0.quiet.ok.0, c.in_ok-nodes.quiet.ok.0, ap (λ (q : Vec ℕ Global). length q.items) c.in_ok-nodes.quiet-is)));
+      found = elim c.match-ended.branch [
+        | in-Closed w ↦ subst claims (sym w.finding-is) (explored.closed w.in-Closed.is, explored.always_alive w.in-Closed.is)
+        | in-AtLimit w ↦
+            let at = explored.at_limit w.in-AtLimit.is in
+            subst claims (sym w.finding-is) (at.0, subst safe_if (at.1 ∙ ap (λ n. Some n) (sym at.0)) explored.settled)
+        | in-BadStep+in_ok-finding-in-BadStep w ↦ subst claims (sym w.finding-is) (w.in_ok-finding-in-BadStep.ensures.claims a.limit states)
+        | in-TooManyStates w ↦
+            let is = subst (λ s. IsFullFinding (map (state_at s) nodes) result.safe w.too_many_states-finding.result) w.signature.ensures w.too_many_states-finding.ensures in
+            let many = subst (λ n. a.limit ≤ n) (sym (length-map nodes (state_at shape))) (explored.full w.in-TooManyStates.is) in
+            let near = nodes_reached shape specification turns within nodes explored.nodes.1 explored.inside (suc (beyond result.safe))
+            (λ i n there. omega (arith, each_got (λ n. n.depth ≤ result.whole + 1) nodes i n (explored.near w.in-TooManyStates.is) there, explored.beyond)) in
+            subst claims (sym w.finding-is) (full_claims specification turns within states result.safe crowds a.steps a.limit right rests w.too_many_states-finding.result is many explored.settled near)
+        | in-TooManyOutcomes w ↦ subst claims (sym w.finding-is) (
+          explored.settled,
+          let at = subst (λ e. IfOverLimit e (λ crowd. (number : ℕ) × AtNode shape crowds nodes number result.whole crowd)) w.in-TooManyOutcomes.is explored.crowded in
+              let n = at.1.0 in
+              let shallow : n.depth ≤ beyond result.safe = omega (arith, at.1.2, explored.beyond) in
+              (state_at shape n, node_reached shape specification turns within nodes explored.nodes.1 explored.inside (beyond result.safe) at.0 n at.1.1 shallow, at.1.3),
+        )
+        | in-Memory w ↦ subst claims (sym w.finding-is) explored.settled
+      ];
+      looked = explored.through.looked;
+      quiet = subst (Counts (λ A. (within A ≡ true) × IsQuiet specification turns A) (take explored.through.looked states)) (sym quiet) explored.through.quiet;
+      through = elim c.match-ended.branch [
+        | in-Closed w ↦ subst through (sym w.finding-is) (explored.through.always w.in-Closed.is)
+        | in-AtLimit w ↦ subst through (sym w.finding-is) explored.through.before
+        | in-BadStep+in_ok-finding-in-BadStep w ↦ subst through (sym w.finding-is) (w.in_ok-finding-in-BadStep.ensures.through explored.through.looked states explored.through.before)
+        | in-TooManyStates w ↦
+            let is = subst (λ s. IsFullFinding (map (state_at s) nodes) result.safe w.too_many_states-finding.result) w.signature.ensures w.too_many_states-finding.ensures in
+            subst through (sym w.finding-is) (full_through specification turns within states result.safe looked w.too_many_states-finding.result is known)
+        | in-TooManyOutcomes w ↦ subst through (sym w.finding-is) known
+        | in-Memory w ↦ subst through (sym w.finding-is) known
+      ];
       rest = c.quiet_run-first_quiet.ensures;
     }

@@ -10,6 +10,7 @@ use Rattle.asm_explore.specs.code.OutcomeLists.{Each}
 use Rattle.asm_explore.specs.code.ChoicePaths.{HaveOwnPaths}
 use Rattle.asm_explore.specs.code.ReachedStates.{state_at}
 use Rattle.asm_explore.specs.code.ScriptTo.{lines_of, needed}
+use Rattle.asm_explore.specs.code.WrittenScripts.{IsTextOf}
 use Rattle.asm_explore.specs.Search.{HoldsBefore, IsQuiet}
 use Rattle.asm_explore.proofs.StateLemmas.RunsAlongChoices.{trail_run}
 use Rattle.asm_explore.proofs.ScriptLemmas.ScriptToState.{needed_make}
@@ -55,7 +56,8 @@ returns g c =
     let last : (run specification turns (exactly lines) (length c.as_slice-back.result.now)).last ≡ state_at shape n =
     subst (λ k. (run specification turns (exactly lines) k).last ≡ state_at shape n) long runs.1 in
     record {
-      script = exactly lines;
+      lines = lines;
+      text = subst (λ b. IsTextOf (needed (lines_of b)) (string_bytes c.in-Ok-script_to.script)) back c.in-Ok-script_to.ensures.text;
       spelled = subst (λ b. IsScript (string_bytes c.in-Ok-script_to.script) (exactly (needed (lines_of b)))) back c.in-Ok-script_to.ensures.script;
       end = subst (λ k. (run specification turns (exactly lines) k).end ≡ AtLimit) long runs.0;
       quiet = subst (IsQuiet specification turns) (sym last) first.3;

@@ -1,4 +1,5 @@
 use Rattle.std.proofs.Common.{◌≡◌, ◌∙◌, ◌∷◌, ◌++◌, [], ap, append_assoc}
+use Rattle.std.specs.Prelude.{option_map}
 use Rattle.std.specs.String.{string_bytes}
 use Rattle.asm_explore_report.specs.Comments.{lines_of}
 use Rattle.asm_explore_report.specs.ShownRuns.{shown_of}
@@ -13,7 +14,7 @@ returns c =
     let crowd = lines_of c.in_ok-lines.lines.items in
     let conditions = condition_lines c.args.conditions.now in
     let looked = all_looked_for c.args.conditions.now in
-    let counts = count_lines answer in
+    let counts = count_lines (option_map (λ name. name.now) settings.quiet) answer in
     let note = graph_lines c.args.drawing in
     let made = command_lines settings.turns settings.spec.now (shown_in answer.finding) in
     let first : lines_of c.add_conditions.new.lines.items ≡ crowd ++ conditions = c.in_ok-add_conditions.ensures in
@@ -27,8 +28,6 @@ returns c =
     record {
       crowd = crowd;
       is_crowd = c.in_ok-lines.ensures;
-      graph = note;
-      is_graph = c.requires;
       are = fifth ∙ (append_assoc (((crowd ++ conditions) ++ looked ∷ []) ++ counts) note made
           ∙ (append_assoc ((crowd ++ conditions) ++ looked ∷ []) counts (note ++ made)
           ∙ (append_assoc (crowd ++ conditions) (looked ∷ []) (counts ++ (note ++ made))

@@ -9,6 +9,7 @@ returns-in-Ok c =
     record {
       accepted = c.in_ok-checked.ensures;
       always = subst (λ t. AreAllAsked c.args.text.now (texts_of c.args.conditions.now) c.in_ok-checked.checked t) (sym is.always) c.in-Ok.ensures;
+      when_quiet = is.when_quiet;
       turns = is.turns;
       steps = is.steps;
       runs = is.runs;

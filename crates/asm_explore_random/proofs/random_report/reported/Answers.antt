@@ -7,7 +7,8 @@ returns g c =
       asked = c.args.asked.now;
       is_asked = asked;
       answer = c.in_ok-answer.answer;
-      claims = c.in_ok-answer.ensures;
+      claims = c.in_ok-answer.ensures.claims;
+      counts = c.in_ok-answer.ensures.counts;
       status = c.status_of-status.ensures;
       printed = c.in_ok-text.ensures asked.always.links asked.always.joined;
     }

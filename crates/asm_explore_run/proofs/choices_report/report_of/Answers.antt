@@ -1,11 +1,9 @@
-use Rattle.std.proofs.Common.{◌≡◌, sym, subst}
+use Rattle.std.proofs.Common.{◌≡◌, subst}
 use Rattle.asm_reader.specs.ScriptLines.{Script}
-use Rattle.asm_explore.specs.RunChoices.{choices_in}
+use Rattle.asm_explore.specs.RunChoices.{asked_in, choices_in}
 use Rattle.asm_syntax.specs.SourceTree.{Spec}
 use Rattle.asm_syntax.specs.code.Views.{spec_of}
 use Rattle.asm_run.specs.Headline.{IsReturned, book_run}
-use Rattle.asm_explore_run.specs.RunReport.{IsRunStatus}
-use Rattle.asm_explore_run.proofs.RunStatuses.{choices_told}
 use Rattle.asm_explore_run.proofs.choices_report.report_of.Goals as goal
 
 pub returns : goal.returns
@@ -22,7 +20,6 @@ returns g c =
     let answered : IsReturned (book_run tree settings.turns script settings.steps).end c.in_ok-ended.ended.end =
     subst (λ (s : Script). IsReturned (book_run tree settings.turns s settings.steps).end c.in_ok-ended.ended.end) same_script
     (subst (λ (t : Spec). IsReturned (book_run t settings.turns ends.script settings.steps).end c.in_ok-ended.ended.end) same_tree ends.answered) in
-    let status = c.in_ok-report.ensures.status in
     record {
       tree = tree;
       accepted = c.requires.accepted;
@@ -30,8 +27,10 @@ returns g c =
       spelled = spelled;
       steps = choices_in c.in_ok-run.run';
       choices = choices;
+      asked = asked_in c.in_ok-run.run';
+      are_asked = c.in_ok-run.ensures.4;
       printed = c.in_ok-report.ensures.printed (book_run tree settings.turns script settings.steps).end answered;
       apart = made.unrepeated;
       again = made.again;
-      status = subst (λ k. IsRunStatus (book_run tree settings.turns script settings.steps).end k) (sym status.1) (choices_told _ _ status.0 answered);
+      status = c.in_ok-report.ensures.status (book_run tree settings.turns script settings.steps).end answered;
     }

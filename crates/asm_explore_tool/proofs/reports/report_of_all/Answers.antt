@@ -1,5 +1,5 @@
 use Rattle.std.proofs.Common.{subst}
-use Rattle.asm_explore_all.specs.AllReport.{IsReported}
+use Rattle.asm_explore_all.specs.AllReport.{IsReportedBy}
 use Rattle.asm_explore_tool.proofs.reports.report_of_all.Goals as goal
 
 pub returns-clause-report : goal.returns-clause-report
@@ -8,5 +8,5 @@ returns-clause-report g c = record {
   is_text = c.in_ok-text.ensures.text;
   conditions = c.in_ok-conditions.conditions;
   given = c.in_ok-conditions.ensures.given;
-  reported = subst (λ t. IsReported t c.in_ok-conditions.conditions c.args.settings.now c.in_ok-report.report) c.as_slice-text.ensures.value c.in_ok-report.ensures;
+  reported = subst (λ t. IsReportedBy t c.in_ok-conditions.conditions c.args.settings.now (g.F.NewFiles.made c.args.folder.now) (g.F.NewFiles.made c.all_report.new.files) c.in_ok-report.report) c.as_slice-text.ensures.value c.in_ok-report.ensures;
 }

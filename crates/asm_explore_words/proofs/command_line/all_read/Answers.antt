@@ -16,6 +16,7 @@ returns-clause-read c =
       when_quiet = c.get_str-2.ensures ∙ sym (first_of_rows f (codes "deadlock-unless"));
       within = c.get_str-3.ensures ∙ sym (first_of_rows f (codes "within"));
       dot = c.get_str-4.ensures ∙ sym (first_of_rows f (codes "dot"));
+      quiet = c.get_str-5.ensures ∙ sym (first_of_rows f (codes "quiet"));
       trace = c.is_set.ensures ∙ ap is_yes (sym (first_of_rows f (codes "trace")));
       progress = c.is_set-2.ensures ∙ ap is_yes (sym (first_of_rows f (codes "progress")));
     }

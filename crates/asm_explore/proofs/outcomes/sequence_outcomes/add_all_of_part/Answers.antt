@@ -1,6 +1,5 @@
-use Rattle.std.proofs.Common.{◌≤◌, ◌<◌, ◌+◌, ◌++◌, length}
-use Rattle.asm_explore.specs.code.Sequences.{both_ways}
-use Rattle.asm_explore.proofs.OutcomeLemmas.FullLists.{too_many_on, crowd_ways}
+use Rattle.std.proofs.Common.{◌≤◌, ◌<◌, ◌+◌, ◌++◌, length, max}
+use Rattle.asm_explore.proofs.OutcomeLemmas.FullLists.{too_many_on, crowd_longer}
 use Rattle.asm_explore.proofs.OutcomeLemmas.SequenceOutcomes.{sorted_none, sorted_more}
 use Rattle.asm_explore.proofs.outcomes.sequence_outcomes.add_all_of_part.Goals as goal
 
@@ -20,7 +19,7 @@ pub returns-in_err-add_one_of_part-clause-crowd : goal.returns-in_err-add_one_of
 returns-in_err-add_one_of_part-clause-crowd c =
     let a = c.args in
     let l = c.loop-i in
-    too_many_on (a.limit ≤ length (both_ways l.sorted)) (a.limit < length (both_ways a.sorted.now) + length a.part.now)
+    too_many_on (a.limit ≤ max (length l.sorted.done.items) (length l.sorted.more.items)) (a.limit < max (length a.sorted.now.done.items) (length a.sorted.now.more.items) + length a.part.now)
     c.from_residual.result c.in_err-add_one_of_part.field-0.0 c.from_residual.ensures.1
-    (crowd_ways a.limit a.part.now l.i c.loop-i-test.true (λ ds. a.choices.now ++ ds) (both_ways l.sorted) (both_ways a.sorted.now) l.invariant.chosen)
+    (crowd_longer a.limit a.part.now l.i c.loop-i-test.true (λ ds. a.choices.now ++ ds) l.sorted a.sorted.now l.invariant.done_chosen l.invariant.more_chosen)
     c.in_err-add_one_of_part.ensures.crowd

@@ -6,7 +6,7 @@ use Rattle.asm_reader.specs.code.ExactLines.{exactly}
 use Rattle.asm_reader.specs.ScriptText.{IsScript}
 use Rattle.asm_meaning.specs.Scripts.{IsUnrepeated}
 use Rattle.asm_explore.specs.code.ScriptTo.{lines_of, needed}
-use Rattle.asm_explore.specs.code.WrittenScripts.{AreSteps, IsTextRefusal, lines_said, lines_text, numbers_in}
+use Rattle.asm_explore.specs.code.WrittenScripts.{AreSteps, IsTextOf, IsTextRefusal, lines_said, lines_text, numbers_in}
 use Rattle.asm_explore.proofs.ScriptLemmas.ScriptToState.{lines_counted}
 use Rattle.asm_explore.proofs.scripts.script_to.script_to.Goals as goal
 
@@ -16,6 +16,7 @@ returns c =
     let lines = lines_of back in
     let is : lines_said c.as_slice.result.now ≡ lines = ap lines_said c.as_slice.ensures.value ∙ c.in_ok-lines.ensures in
     record {
+      text = subst (λ ls. IfOk c.script_text.result (λ text. IsTextOf (needed ls) (string_bytes text))) is c.script_text.ensures.text;
       script = IfOk-weaker c.script_text.result
           (λ text. AreSteps lines → IsUnrepeated (exactly lines) → IsScript (string_bytes text) (exactly (needed lines)))
           (λ text. IsScript (string_bytes text) (exactly (needed lines)))

@@ -11,7 +11,7 @@ use Rattle.asm_explore.specs.code.StepOutcomes.{IsOverLimitOf}
 use Rattle.asm_explore.proofs.StateLemmas.Batches.{batch_at, shallow_at, same_node}
 use Rattle.asm_explore.proofs.SearchEnds.{refused_done, refused_closed, refused_bad, halts_full, ends_crowded}
 use Rattle.asm_explore.proofs.LookedAhead.{ahead_at, ahead_count, ahead_more}
-use Rattle.asm_explore.proofs.StateLemmas.MoreNodes.{looked_more, looked_same, long_more, at_more, some_at}
+use Rattle.asm_explore.proofs.StateLemmas.MoreNodes.{looked_more, looked_same, long_more, at_more, shallow_more, some_at}
 use Rattle.asm_explore.proofs.StateLemmas.QuietNodes.{rested_more, rested_same}
 use Rattle.asm_explore.proofs.search.Search.expand_batch.Goals as goal
 
@@ -123,6 +123,7 @@ returns-in-Ok-Some-clause-stopped g c =
             (omega (arith, deep, ap (λ (n : Node). n.depth) same), subst (λ (x : Node). within (state_at shape x) ≡ true) same inside),
       );
       full = λ full. cc;
+      near = λ full. cc;
       crowded = tt;
     }
 
@@ -156,6 +157,12 @@ returns-in-Err-clause-stopped g c =
       closed = λ closed. absurd (refused_closed c.cut_off.result refused closed);
       wrong = refused_bad _ c.cut_off.result refused;
       full = λ full. halts_full (a.self.now.limit ≤ length c.expand_step.new.reached.nodes) (IsOverLimitOf makes limit A) c.in-Err.halt (c.cut_off.ensures.states full) c.in-Err.ensures.expands.full;
+      near = λ full. (
+        n.0,
+        at_more shape specification turns right (n.0.depth + 1) l.reached.nodes c.expand_step.new.reached.nodes extends i n.0 there,
+        deep,
+        shallow_more shape specification turns right (n.0.depth + 1) l.reached.nodes c.expand_step.new.reached.nodes extends (l.invariant.near n.0 there),
+      );
       crowded = ends_crowded (a.self.now.limit ≤ length c.expand_step.new.reached.nodes) (IsOverLimitOf makes limit A) (λ crowd. (m : Node) × (slice_get c.expand_step.new.reached.nodes i ≡ Some m) × (m.depth < a.self.now.steps) × IsOverLimitOf makes limit (state_at shape m) crowd)
           c.cut_off.result c.in-Err.halt c.cut_off.ensures.crowd
           (λ crowd so. (

@@ -1,62 +1,24 @@
-use Rattle.std.proofs.Common.{◌≡◌, ◌∙◌, refl, sym, subst, arith}
-use Rattle.std.proofs.lemmas.Bool.{false≢true}
-use Rattle.asm_state.specs.Signature.{count_of, state_of}
-use Rattle.asm_meaning.specs.Yields.{Result}
-use Rattle.asm_explore.specs.declared.outcomes.listed_outcome.ListedOutcome.{ListedOutcome}
-use Rattle.asm_explore.specs.code.OutcomeLists.{Situation, IsCounted, IsSound, Shows}
-use Rattle.asm_explore.specs.code.ChoicePaths.{HaveOwnPaths}
-use Rattle.asm_explore.specs.code.ReachedStates.{steps_from}
-use Rattle.asm_explore.specs.Search.{LeadsOn}
-use Rattle.asm_explore.proofs.ScriptLemmas.ScriptToState.{some_script}
-use Rattle.asm_explore.proofs.OutcomeLemmas.ListLemmas.{each_at}
-use Rattle.asm_explore.proofs.StateLemmas.MoreNodes.{both_of, each_taken, each_taken_more}
+use Rattle.std.proofs.Common.{ℕ, Bool, sym, subst}
+use Rattle.std.specs.Prelude.{◌↔◌, IsTrue}
+use Rattle.asm_state.specs.Signature.{Shape, count_of, state_of}
+use Rattle.asm_meaning.specs.Run.{Specification}
+use Rattle.asm_explore.specs.code.OutcomeLists.{AreCounted}
+use Rattle.asm_explore.specs.code.StepOutcomes.{IsStep}
+use Rattle.asm_explore.specs.Search.{IsQuiet}
+use Rattle.asm_explore.proofs.SearchEnds.{errs_or}
 use Rattle.asm_explore.proofs.states.quiet.is_quiet.Goals as goal
 
-pub leads-requires-clause-one : goal.leads-requires-clause-one
-leads-requires-clause-one g c =
-    let a = c.args in
-    let one = c.index-outcomes-k.result in
-    subst (λ s. IsCounted (count_of s) one.answer) (sym c.signature-signature.ensures)
-    (each_at (λ (f : ListedOutcome). IsCounted (count_of (g.M.Machine.shape a.machine.now)) f.answer) a.outcomes.now c.loop-k.k one c.loop-k-test.true c.index-outcomes-k.is c.requires.step.lists.counted)
-
-pub loop-k-preserved : goal.loop-k-preserved
-loop-k-preserved g c =
-    let a = c.args in
-    let shape = g.M.Machine.shape a.machine.now in
-    let one = c.index-outcomes-k.result in
-    each_taken_more (λ (f : ListedOutcome). (r : Result) → Shows shape f.answer r → LeadsOn r (state_of shape a.state.now) (λ B. B ≡ state_of shape a.state.now)) a.outcomes.now c.loop-k.k one c.loop-k-test.true c.index-outcomes-k.is
-    (λ r shows.
-    let so = c.in_ok-leads.ensures r (subst (λ s. Shows s one.answer r) (sym c.signature-signature.ensures) shows) in
-    subst (λ s. LeadsOn r (state_of s a.state.now) (λ B. B ≡ state_of s a.state.now)) c.signature-signature.ensures (so.0 c.if-not-branch.false))
-    c.loop-k.invariant
-
-pub returns-then-not-branch : goal.returns-then-not-branch
-returns-then-not-branch g c =
-    let a = c.args in
-    let shape = g.M.Machine.shape a.machine.now in
-    let A = state_of shape a.state.now in
-    let one = c.index-outcomes-k.result in
-    let step = c.requires.step in
-    let taken = some_script 1 one.choices (each_at (λ (f : ListedOutcome). HaveOwnPaths f.choices) a.outcomes.now c.loop-k.k one c.loop-k-test.true c.index-outcomes-k.is step.apart) in
-    let s : Situation = record { script = taken.0; step = 1 } in
-    let r = steps_from (g.M.Machine.specification a.machine.now) (g.M.Machine.turns a.machine.now) A s in
-    let shows = each_at (IsSound shape (steps_from (g.M.Machine.specification a.machine.now) (g.M.Machine.turns a.machine.now) A)) a.outcomes.now c.loop-k.k one c.loop-k-test.true c.index-outcomes-k.is step.lists.sound s taken.1 in
-    let so = c.in_ok-leads.ensures r (subst (λ s. Shows s one.answer r) (sym c.signature-signature.ensures) shows) in (
-      λ yes. absurd (false≢true yes),
-      λ quiet. absurd (false≢true (sym c.if-not-branch.true ∙ so.1 (subst (λ s. LeadsOn r (state_of s a.state.now) (λ B. B ≡ state_of s a.state.now)) (sym c.signature-signature.ensures) (quiet taken.0 1)))),
-    )
+pub all_stay-requires-clause-counted : goal.all_stay-requires-clause-counted
+all_stay-requires-clause-counted g c = subst (λ (s : Shape). AreCounted (count_of s) c.args.outcomes.now) (sym c.signature.ensures) c.requires.step.lists.counted
 
 pub returns : goal.returns
 returns g c =
     let a = c.args in
-    let shape = g.M.Machine.shape a.machine.now in
-    let A = state_of shape a.state.now in (
-      λ yes script step.
-          let s : Situation = record { script = script; step = step } in
-          let r = steps_from (g.M.Machine.specification a.machine.now) (g.M.Machine.turns a.machine.now) A s in
-          let one = both_of (λ (f : ListedOutcome). (r : Result) → Shows shape f.answer r → LeadsOn r A (λ B. B ≡ A)) (λ (f : ListedOutcome). Shows shape f.answer r) a.outcomes.now
-          (each_taken (λ (f : ListedOutcome). (r : Result) → Shows shape f.answer r → LeadsOn r A (λ B. B ≡ A)) a.outcomes.now c.loop-k.k (omega arith) c.loop-k.invariant)
-          (c.requires.step.lists.complete s) in
-          one.1 r one.2,
-      λ quiet. refl,
-    )
+    let specification = g.M.Machine.specification a.machine.now in
+    let turns = g.M.Machine.turns a.machine.now in
+    let signature = c.signature.result.now in
+    errs_or (λ (so : Bool). (specification : Specification) (turns : ℕ) → IsStep signature specification turns (state_of signature a.state.now) a.outcomes.now → IsTrue so ↔ IsQuiet specification turns (state_of signature a.state.now))
+    (λ (so : Bool). IsTrue so ↔ IsQuiet specification turns (state_of (g.M.Machine.shape a.machine.now) a.state.now)) c.all_stay.result
+    (λ so h. subst (λ (s : Shape). IsTrue so ↔ IsQuiet specification turns (state_of s a.state.now)) c.signature.ensures
+    (h specification turns (subst (λ (s : Shape). IsStep s specification turns (state_of s a.state.now) a.outcomes.now) (sym c.signature.ensures) c.requires.step)))
+    c.all_stay.ensures

@@ -60,7 +60,7 @@ list_all-returns-in_err-more t c =
     (subst (IsAmong one) (makings.parts_next a.exploration.now a.frame.now p a.parts.now k c.index-parts-i.result low c.index-parts-i.is s) there))
     c.in_ok-part.part.items l.found.items c.in_ok-part.ensures.differ l.invariant.differ c.in_ok-part.ensures.placed c.in_ok-part.ensures.made
     (subst (λ j. HaveChoices (IsPlacedFrom p j) l.found.items) back l.invariant.placed) (subst (λ j. HaveChoices (AreMade (left j)) l.found.items) back l.invariant.made)
-    (length c.in_ok-part.part.items) (length l.found.items) c.in_err-more.field-0.0 c.in_err-more.ensures.names c.in_err-more.ensures.crowd)
+    c.in_err-more.field-0.0 c.in_err-more.ensures.names c.in_err-more.ensures.crowd)
 
 pub list_each-returns-in_err-more : goal.list_each-returns-in_err-more
 list_each-returns-in_err-more t c =
@@ -99,7 +99,7 @@ list_element-returns-in_err-found-clause-crowded t c = λ m after placed differ.
     refuses_on a.exploration.now.limit (λ q. IsWay p (λ s. cond so (makes s ++ m s) (m s))) c.from_residual-in_err-found.result c.in_err-found.field-0.0 c.from_residual-in_err-found.ensures.1
     (beside_refused a.exploration.now.limit p a.number makes m (λ s. cond so (makes s ++ m s) (m s)) (λ s one. subst (IsAmong one) (ap (λ b. cond b (makes s ++ m s) (m s)) (sym c.if-passes.true ∙ c.passes.ensures)))
     c.in_ok-part.part.items a.after.items c.in_ok-part.ensures.differ differ c.in_ok-part.ensures.placed c.in_ok-part.ensures.made placed after
-    (length c.in_ok-part.part.items) (length a.after.items) c.in_err-found.field-0.0 c.in_err-found.ensures.names c.in_err-found.ensures.crowd)
+    c.in_err-found.field-0.0 c.in_err-found.ensures.names c.in_err-found.ensures.crowd)
 
 pub list_choose-returns-in_err-part : goal.list_choose-returns-in_err-part
 list_choose-returns-in_err-part t c =
@@ -127,7 +127,7 @@ list_choose-returns-in_err-add_part t c =
     refused_list a.exploration.now a.path.now _ _ c.from_residual-in_err-add_part.result c.in_err-add_part.field-0.0 c.from_residual-in_err-add_part.ensures.1
     (picked_refused a.exploration.now.limit p makes whole l.k taken c.in_ok-part.part.items l.found.items l.invariant.differ l.invariant.takes c.in_ok-part.ensures.differ
     c.in_ok-part.ensures.placed c.in_ok-part.ensures.made l.invariant.placed l.invariant.made
-    (length c.in_ok-part.part.items) (length l.found.items) c.in_err-add_part.field-0.0 c.in_err-add_part.ensures.names c.in_err-add_part.ensures.crowd)
+    c.in_err-add_part.field-0.0 c.in_err-add_part.ensures.names c.in_err-add_part.ensures.crowd)
 
 pub list_in_order-returns-in_err-next : goal.list_in_order-returns-in_err-next
 list_in_order-returns-in_err-next t c =
@@ -150,7 +150,7 @@ list_in_order-returns-in_err-found t c =
     let total = order_made_on a.exploration.now a.frame.now a.path.now (rules_of (map rule_of a.parts.now)) in
     refused_list a.exploration.now a.path.now _ _ c.from_residual-in_err-found.result c.in_err-found.field-0.0 c.from_residual-in_err-found.ensures.1
     (closed_refused a.exploration.now.limit a.path.now total l.sorted l.invariant.differ (both_placed a.path.now l.i l.sorted l.invariant.placed) l.invariant.made.done_made l.invariant.made.front_made
-    (length l.sorted.done.items) (length l.sorted.more.items) c.in_err-found.field-0.0 c.in_err-found.ensures.names c.in_err-found.ensures.crowd)
+    c.in_err-found.field-0.0 c.in_err-found.ensures.names c.in_err-found.ensures.crowd)
 
 pub list_turns-returns-in_err-next : goal.list_turns-returns-in_err-next
 list_turns-returns-in_err-next t c =
@@ -179,7 +179,7 @@ list_turns-returns-in_err-found t c =
     let total = makes_on a.exploration.now a.frame.now a.path.now (tree.Iterate (rule_of a.body.now)) in
     refused_list a.exploration.now a.path.now _ _ c.from_residual-in_err-found.result c.in_err-found.field-0.0 c.from_residual-in_err-found.ensures.1
     (closed_refused a.exploration.now.limit a.path.now total l.sorted l.invariant.differ (both_placed a.path.now l.turn l.sorted l.invariant.placed) l.invariant.made.done_made l.invariant.made.front_made
-    (length l.sorted.done.items) (length l.sorted.more.items) c.in_err-found.field-0.0 c.in_err-found.ensures.names c.in_err-found.ensures.crowd)
+    c.in_err-found.field-0.0 c.in_err-found.ensures.names c.in_err-found.ensures.crowd)
 
 pub list_next-returns-in_err-list_one-clause-crowded : goal.list_next-returns-in_err-list_one-clause-crowded
 list_next-returns-in_err-list_one-clause-crowded t c = λ total left left_then steps so_far h g differ.
@@ -212,4 +212,4 @@ list_one-returns-in_err-add_part_of_sequence-in-Set-clause-crowded t c = λ tota
     (made_on a.exploration.now a.frame.now (at a.path.now a.number) (rule_of a.rule.now)) total left left_then steps a.one.now c.in-Set.so_far c.in-Set.is upon.state upon.fired own on
     a.exploration.now.limit a.path.now a.number before c.in_ok-part-in-Set.part.items a.sorted.now differ c.in_ok-part-in-Set.ensures.differ c.in_ok-part-in-Set.ensures.placed upon.made both
     so_far.done_made so_far.front_made
-    (length c.in_ok-part-in-Set.part.items) (length a.sorted.now.more.items) c.in_err-add_part_of_sequence-in-Set.field-0.0 c.in_err-add_part_of_sequence-in-Set.ensures.names c.in_err-add_part_of_sequence-in-Set.ensures.crowd)
+    c.in_err-add_part_of_sequence-in-Set.field-0.0 c.in_err-add_part_of_sequence-in-Set.ensures.names c.in_err-add_part_of_sequence-in-Set.ensures.crowd)

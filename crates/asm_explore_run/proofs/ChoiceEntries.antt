@@ -1,0 +1,135 @@
+-- Free. Entries for choices, one after the other.
+--     lines_more, step_more        the lines of one choice more, and of one step more
+--     entries_more                 the comment of one entry more
+--     asked_more, all_more         what is asked in one choice more, and in one step more
+--     listed_first, listed_next    one candidate more
+--     candidates_told              the candidates of a choice
+use Rattle.std.proofs.Common.{◌≡◌, ◌∙◌, ◌+◌, ◌-◌, ◌<◌, ◌≤◌, ℕ, zero, suc, List, [], ◌∷◌, ◌++◌, length, map, min, take, get_or, codes, Vec, Global, append_assoc, append-nil, refl, inl, inr, sym, ap, arith}
+use Rattle.std.specs.List.{flat_map}
+use Rattle.std.proofs.lemmas.Grind.{flat_map-append}
+use Rattle.std.proofs.lemmas.Bool.{cases_lt}
+use Rattle.std.proofs.lemmas.List.{length-map, length-take-le, map-append, take_all, take_more}
+use Rattle.asm_state.specs.declared.value.Value.{Value}
+use Rattle.asm_run.specs.Trace.{TraceNames, value_text, values_text}
+use Rattle.asm_explore.specs.declared.choices.choice_point.ChoicePoint.{ChoicePoint}
+use Rattle.asm_explore.specs.declared.outcomes.listed_outcome.Choice.{Choice}
+use Rattle.asm_explore.specs.ChoicePoints.{Asking}
+use Rattle.asm_explore.specs.RunChoices.{asked_said, choices_made, lines_forward, lines_from}
+use Rattle.asm_explore.specs.code.AskedPieces.{all_said}
+use Rattle.asm_explore.specs.code.ScriptTo.{lines_for}
+use Rattle.asm_explore_report.specs.Commented.{said_by}
+use Rattle.asm_explore_report.specs.declared.commented.Entry.{Entry}
+use Rattle.asm_explore_run.specs.ChoicesText.{AreEntriesOf, IsEntryOf, and_more, candidates_text, greatest_listed, listed}
+use Rattle.asm_reader.specs.ScriptLines.{Line}
+
+-- ---- lines
+
+for_both : (step : ℕ) (cs ds : List Choice) → lines_for step (cs ++ ds) ≡ lines_for step cs ++ lines_for step ds
+for_both step [] ds = refl
+for_both step (c ∷ cs) ds = ap (λ ls. record { step = step; path = c.path; choice = c.number } ∷ ls) (for_both step cs ds)
+
+-- the lines of the first choices of a step, and of one more
+pub lines_more : (step : ℕ) (asked : List ChoicePoint) (i : ℕ) (a : ChoicePoint) (old new : List Line) → i < length asked → a ≡ get_or asked i a
+    → new ≡ (old ++ lines_for step (choices_made (take i asked))) ++ lines_for step (choices_made (a ∷ [])) → new ≡ old ++ lines_for step (choices_made (take (i + 1) asked))
+lines_more step asked i a old new low is grown =
+    grown ∙ append_assoc old (lines_for step (choices_made (take i asked))) (lines_for step (choices_made (a ∷ [])))
+    ∙ ap (λ t. old ++ t)
+    (sym (ap (λ xs. lines_for step (choices_made xs)) (take_more asked i a low ∙ ap (λ d. take i asked ++ d ∷ []) (sym is))
+    ∙ ap (lines_for step) (map-append (λ (d : ChoicePoint). d.choice) (take i asked) (a ∷ []))
+    ∙ for_both step (choices_made (take i asked)) (choices_made (a ∷ []))))
+
+abbrev pub steps_made : List (Vec ChoicePoint Global) → List (List Choice)
+steps_made steps = map (λ (asked : Vec ChoicePoint Global). choices_made asked.items) steps
+
+from_both : (i : ℕ) (steps : List (List Choice)) (cs : List Choice) → lines_from i (steps ++ cs ∷ []) ≡ lines_from i steps ++ lines_for (i + length steps) cs
+from_both i [] cs = let same : i ≡ i + 0 = omega arith in append-nil (lines_for i cs) ∙ ap (λ n. lines_for n cs) same
+from_both i (ds ∷ steps) cs =
+    let same : suc i + length steps ≡ i + length (ds ∷ steps) = omega arith in
+    ap (λ ls. lines_for i ds ++ ls) (from_both (suc i) steps cs ∙ ap (λ n. lines_from (suc i) steps ++ lines_for n cs) same)
+    ∙ sym (append_assoc (lines_for i ds) (lines_from (suc i) steps) (lines_for (i + length (ds ∷ steps)) cs))
+
+-- the lines of one step more
+pub step_more : (steps : List (Vec ChoicePoint Global)) (k : ℕ) (asked : Vec ChoicePoint Global) (new : List Line) → k < length steps → asked ≡ get_or steps k asked
+    → new ≡ lines_forward (steps_made (take k steps)) ++ lines_for (k + 1) (choices_made asked.items) → new ≡ lines_forward (steps_made (take (k + 1) steps))
+step_more steps k asked new low is grown =
+    let first = take k steps in
+    let count : 1 + length (steps_made first) ≡ k + 1 = omega (arith, length-map first (λ (cs : Vec ChoicePoint Global). choices_made cs.items), length-take-le k steps (omega (arith, low)), low) in
+    grown
+    ∙ sym (ap (λ xs. lines_forward (steps_made xs)) (take_more steps k asked low ∙ ap (λ d. first ++ d ∷ []) (sym is))
+    ∙ ap lines_forward (map-append (λ (cs : Vec ChoicePoint Global). choices_made cs.items) first (asked ∷ []))
+    ∙ from_both 1 (steps_made first) (choices_made asked.items)
+    ∙ ap (λ n. lines_forward (steps_made first) ++ lines_for n (choices_made asked.items)) count)
+
+-- ---- comments
+
+module _ (names : TraceNames) where
+  pub entries_more : (asked : List Asking) (entries : List Entry) (a : Asking) (entry : Entry) → AreEntriesOf names asked entries → IsEntryOf names a entry
+      → AreEntriesOf names (asked ++ a ∷ []) (entries ++ entry ∷ [])
+  entries_more [] [] a entry are is = (is, tt)
+  entries_more [] (x ∷ entries) a entry are is = absurd are
+  entries_more (x ∷ asked) [] a entry are is = absurd are
+  entries_more (x ∷ asked) (y ∷ entries) a entry are is = (are.0, entries_more asked entries a entry are.1 is)
+
+-- what is asked in one choice more
+pub asked_more : (before : List Asking) (asked : List ChoicePoint) (i : ℕ) (a : ChoicePoint) → i < length asked → a ≡ get_or asked i a
+    → (before ++ all_said (take i asked)) ++ all_said (a ∷ []) ≡ before ++ all_said (take (i + 1) asked)
+asked_more before asked i a low is =
+    append_assoc before (all_said (take i asked)) (all_said (a ∷ []))
+    ∙ ap (λ t. before ++ t) (sym (ap all_said (take_more asked i a low ∙ ap (λ d. take i asked ++ d ∷ []) (sym is)) ∙ map-append asked_said (take i asked) (a ∷ [])))
+
+abbrev pub steps_asked : List (Vec ChoicePoint Global) → List Asking
+steps_asked steps = flat_map (λ step. step) (map (λ (asked : Vec ChoicePoint Global). map asked_said asked.items) steps)
+
+-- and in one step more
+pub all_more : (steps : List (Vec ChoicePoint Global)) (k : ℕ) (asked : Vec ChoicePoint Global) → k < length steps → asked ≡ get_or steps k asked
+    → steps_asked (take k steps) ++ all_said asked.items ≡ steps_asked (take (k + 1) steps)
+all_more steps k asked low is =
+    let first = take k steps in
+    let said : List (Vec ChoicePoint Global) → List (List Asking) = λ xs. map (λ (ys : Vec ChoicePoint Global). map asked_said ys.items) xs in
+    ap (λ t. steps_asked first ++ t) (sym (append-nil (all_said asked.items)))
+    ∙ sym (ap steps_asked (take_more steps k asked low ∙ ap (λ d. first ++ d ∷ []) (sym is))
+    ∙ ap (flat_map (λ step. step)) (map-append (λ (ys : Vec ChoicePoint Global). map asked_said ys.items) first (asked ∷ []))
+    ∙ flat_map-append (λ step. step) (said first) (all_said asked.items ∷ []))
+
+-- ---- candidates
+
+module _ (names : TraceNames) where
+  values_more : (v : Value) (vs : List Value) (w : Value) → values_text names.elements v (vs ++ w ∷ []) ≡ values_text names.elements v vs ++ (codes ", " ++ value_text names.elements w)
+  values_more v [] w = refl
+  values_more v (u ∷ vs) w =
+      ap (λ t. value_text names.elements v ++ (codes ", " ++ t)) (values_more u vs w)
+      ∙ ap (λ t. value_text names.elements v ++ t) (sym (append_assoc (codes ", ") (values_text names.elements u vs) (codes ", " ++ value_text names.elements w)))
+      ∙ sym (append_assoc (value_text names.elements v) (codes ", " ++ values_text names.elements u vs) (codes ", " ++ value_text names.elements w))
+
+  pub listed_first : (vs : List Value) (i : ℕ) (w : Value) (old new : List ℕ) → i < length vs → i ≡ 0 → w ≡ get_or vs i w → new ≡ (old ++ listed names (take i vs)) ++ value_text names.elements w
+      → new ≡ old ++ listed names (take (i + 1) vs)
+  listed_first [] i w old new low first is grown = absurd (omega (arith, low))
+  listed_first (v ∷ vs) zero w old new low first is grown =
+      grown ∙ ap (λ t. t ++ value_text names.elements w) (append-nil old) ∙ ap (λ u. old ++ value_text names.elements u) is
+  listed_first (v ∷ vs) (suc i) w old new low first is grown = absurd (omega (arith, first))
+
+  pub listed_next : (vs : List Value) (i : ℕ) (w : Value) (old new : List ℕ) → i < length vs → 0 < i → w ≡ get_or vs i w
+      → new ≡ ((old ++ listed names (take i vs)) ++ codes ", ") ++ value_text names.elements w → new ≡ old ++ listed names (take (i + 1) vs)
+  listed_next [] i w old new low later is grown = absurd (omega (arith, low))
+  listed_next (v ∷ vs) zero w old new low later is grown = absurd (omega (arith, later))
+  listed_next (v ∷ vs) (suc i) w old new low later is grown =
+      let before = values_text names.elements v (take i vs) in
+      let up : suc (i + 1) ≡ suc i + 1 = omega arith in
+      grown ∙ append_assoc (old ++ before) (codes ", ") (value_text names.elements w) ∙ append_assoc old before (codes ", " ++ value_text names.elements w)
+      ∙ ap (λ t. old ++ t) (sym (values_more v (take i vs) w) ∙ ap (values_text names.elements v) (sym (take_more vs i w (omega (arith, low)) ∙ ap (λ d. take i vs ++ d ∷ []) (sym is))))
+      ∙ ap (λ n. old ++ listed names (take n (v ∷ vs))) up
+
+  -- the first candidates, and how many more there are
+  first_shown : (vs : List Value) (shown : ℕ) → shown ≡ min (length vs) greatest_listed → take shown vs ≡ take greatest_listed vs
+  first_shown vs shown is =
+      elim (cases_lt (length vs) greatest_listed) [
+        | inl low ↦ take_all shown vs (omega (arith, is, low)) ∙ sym (take_all greatest_listed vs (omega (arith, low)))
+        | inr many ↦ let same : shown ≡ greatest_listed = omega (arith, is, many) in ap (λ n. take n vs) same
+      ]
+
+  pub candidates_told : (vs : List Value) (shown : ℕ) (old middle new : List ℕ) → shown ≡ min (length vs) greatest_listed → middle ≡ old ++ listed names (take shown vs)
+      → new ≡ middle ++ and_more (length vs - shown) → new ≡ old ++ candidates_text names vs
+  candidates_told vs shown old middle new is first more =
+      let left : length vs - shown ≡ length vs - greatest_listed = omega (arith, is) in
+      more ∙ (λ j. first j ++ and_more (left j)) ∙ append_assoc old (listed names (take shown vs)) (and_more (length vs - greatest_listed))
+      ∙ ap (λ xs. old ++ (listed names xs ++ and_more (length vs - greatest_listed))) (first_shown vs shown is)

@@ -1,0 +1,55 @@
+-- Definition. What is printed of the choices that a run makes.
+--     greatest_listed              so many candidates are listed
+--     listed vs                    values with a comma between each two
+--     and_more n                   how many more there are, if there are any
+--     candidates_text vs           the first candidates, and how many more there are
+--     IsChooseLine asking line     the comment for a choice: where the `choose` is in the text, and
+--                                  its name, are free
+--     IsEntryOf, AreEntriesOf      the lines of choices, each with such a comment before it
+--     IsChoicesText                a first comment, these lines with their comments, and the last
+--                                  comments; or what of it fits
+use Rattle.std.specs.Prelude.{◌≡◌, ◌⊎◌, ◌-◌, ℕ, zero, suc, List, [], ◌∷◌, ◌++◌, length, take, codes, decimal}
+use Rattle.std.specs.List.{flat_map}
+use Rattle.asm_reader.specs.ScriptLines.{Line}
+use Rattle.asm_state.specs.declared.value.Value.{Value}
+use Rattle.asm_run.specs.Trace.{TraceNames, values_text}
+use Rattle.asm_explore.specs.ChoicePoints.{Asking}
+use Rattle.asm_explore_report.specs.Commented.{IsCommentedText, IsWithoutScript, said_by}
+use Rattle.asm_explore_report.specs.Comments.{lines_of}
+use Rattle.asm_explore_report.specs.declared.commented.Entry.{Entry}
+
+abbrev pub greatest_listed : ℕ
+greatest_listed = 64
+
+abbrev pub and_more : ℕ → List ℕ
+and_more zero = []
+and_more (suc n) = codes ", and " ++ (decimal (suc n) ++ codes " more")
+
+module _ (names : TraceNames) where
+  abbrev pub listed : List Value → List ℕ
+  listed [] = []
+  listed (v ∷ vs) = values_text names.elements v vs
+
+  abbrev pub candidates_text : List Value → List ℕ
+  candidates_text vs = listed (take greatest_listed vs) ++ and_more (length vs - greatest_listed)
+
+  pub record IsChooseLine (asking : Asking) (line : List ℕ) : Type 0 where
+    pub place : List ℕ
+    pub name : List ℕ
+    pub is : line ≡ place ++ (codes ": choose" ++ (name ++ (codes ": " ++ candidates_text asking.candidates)))
+
+  pub record IsEntryOf (asking : Asking) (entry : Entry) : Type 0 where
+    pub line : List ℕ
+    pub comments : lines_of entry.comments.items ≡ line ∷ []
+    pub is : IsChooseLine asking line
+
+  abbrev pub AreEntriesOf : List Asking → List Entry → Type 0
+  AreEntriesOf [] [] = Unit {0}
+  AreEntriesOf (asking ∷ asked) (entry ∷ entries) = IsEntryOf asking entry × AreEntriesOf asked entries
+  AreEntriesOf asked entries = ⊥
+
+  -- what was asked in each step, the lines for the choices that were made, and the last comments
+  abbrev pub IsChoicesText : (first : List ℕ) → List (List Asking) → List Line → (last : List (List ℕ)) → (text : List ℕ) → Type 0
+  IsChoicesText first asked lines last text =
+      ((entries : List Entry) × (said_by entries ≡ lines) × AreEntriesOf (flat_map (λ step. step) asked) entries × IsCommentedText first entries last text)
+      ⊎ IsWithoutScript first lines text

@@ -1,0 +1,35 @@
+-- Bridge to the code. The runs of a resolved specification, and what is asked of them.
+--     shape_in m, specification_in m     its shape, and what it says
+--     right_in m, rests_in m             which states are right, and in which runs may rest
+--     IsDead m                           which states are deadlocks
+--     CanRun m                           its codes are sound, and its first state is right
+use Rattle.std.specs.Prelude.{◌≡◌, Bool, true}
+use Rattle.asm_state.specs.Location.{State}
+use Rattle.asm_state.specs.Signature.{Shape}
+use Rattle.asm_syntax.specs.code.Views.{spec_of}
+use Rattle.asm_check.specs.Shapes.{shape_of}
+use Rattle.asm_meaning.specs.Declarations.{specification_of}
+use Rattle.asm_meaning.specs.Run.{Specification}
+use Rattle.asm_explore.specs.Search.{IsDeadlock}
+use Rattle.asm_explore.specs.code.ResolvedConditions.{IsSpecified, holds_in}
+use Rattle.asm_explore.specs.declared.resolved_question.ResolvedQuestion.{ResolvedQuestion}
+
+module _ (m : ResolvedQuestion) where
+  abbrev pub shape_in : Shape
+  shape_in = shape_of (spec_of m.checked.now.spec)
+
+  abbrev pub specification_in : Specification
+  specification_in = specification_of (spec_of m.checked.now.spec)
+
+  abbrev pub right_in : State → Bool
+  right_in = holds_in shape_in m.always.now
+
+  abbrev pub rests_in : State → Bool
+  rests_in = holds_in shape_in m.when_quiet.now
+
+  abbrev pub IsDead : State → Type 0
+  IsDead = IsDeadlock specification_in m.turns rests_in
+
+  pub record CanRun : Type 0 where
+    pub specified : IsSpecified m
+    pub right : right_in specification_in.initial ≡ true
