@@ -56,7 +56,10 @@ def run(words, text="", **variables):
             ran = subprocess.run(words, input=text, capture_output=True, text=True, env=environment, timeout=LONGEST)
         except subprocess.TimeoutExpired:
             sys.exit(f"{words}: the run hangs, with {variables}")
-        return Ran(ran.returncode, ran.stdout, ran.stderr, Requests(*map(int, told.read().split())))
+        counts = told.read().split()
+        if not counts:
+            sys.exit(f"{words}: the run is stopped by signal {-ran.returncode}, with {variables}: {ran.stderr}")
+        return Ran(ran.returncode, ran.stdout, ran.stderr, Requests(*map(int, counts)))
 
 
 class Tally(NamedTuple):

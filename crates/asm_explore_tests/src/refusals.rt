@@ -115,6 +115,24 @@ fn is_front(told: Told, whole: Told, least: u32) -> bool {
     }
 }
 
+/// Whether the same step has too many outcomes, but it isn't known that no state is a deadlock that
+/// as many steps lead to: memory ran out before.
+fn is_less_safe(told: Told, whole: Told) -> bool {
+    match (told.verdict, whole.verdict) {
+        (
+            Verdict::TooManyOutcomes(None, first, others),
+            Verdict::TooManyOutcomes(Some(_), first_of_whole, others_of_whole),
+        ) => {
+            let with_verdict = Told {
+                verdict: whole.verdict,
+                ..told
+            };
+            first == first_of_whole && others == others_of_whole && with_verdict == whole
+        }
+        _ => false,
+    }
+}
+
 /// Whether what is told of a text is this, or memory runs out, before all that is within `least`
 /// steps is looked at.
 fn is_told(
@@ -129,7 +147,7 @@ fn is_told(
     };
     let told = told_by(&answered);
     drop(answered);
-    Ok(told == whole || is_front(told, whole, least))
+    Ok(told == whole || is_less_safe(told, whole) || is_front(told, whole, least))
 }
 
 #[test]
