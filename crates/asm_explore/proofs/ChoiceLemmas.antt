@@ -6,6 +6,7 @@ pub mod AskedWorks
 pub mod ChoicePaths
 pub mod ChoicesCarried
 pub mod ChoicesMade
+pub mod ChosenTexts
 pub mod DifferentChoices
 pub mod MadeAlike
 pub mod MadeChoices

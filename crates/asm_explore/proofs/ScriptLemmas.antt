@@ -1,6 +1,6 @@
 -- Free. Scripts that are written: their lines and their texts.
-pub mod LinesLastFirst
 pub mod LinesLeftOut
 pub mod ScriptToState
 pub mod TextFronts
+pub mod TrailPicks
 pub mod WrittenIsRead

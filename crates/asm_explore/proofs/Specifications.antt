@@ -83,6 +83,7 @@ module _ (specification : Specification) (turns : â„•) (crowds throngs : State â
     lines = h.lines;
     text = h.text;
     spelled = h.spelled;
+    chosen = h.chosen;
     wrong = h.wrong;
     stays = h.stays;
     earliest = earliest_more right rests within bad.fault bad.step h.earliest;
@@ -93,7 +94,7 @@ module _ (specification : Specification) (turns : â„•) (crowds throngs : State â
   claims_more right rests within states (finding.TooManyOutcomes safe crowd) h = (safe_more right rests within safe h.0, (h.1.0, h.1.1, f h.1.0 crowd h.1.2))
   claims_more right rests within states (finding.NoMemory safe) h = safe_more right rests within safe h
   claims_more right rests within states (finding.Unwritten unwritten) h = record {
-    lines = h.lines;
+    script = h.script;
     wrong = h.wrong;
     stays = h.stays;
     long = h.long;

@@ -11,3 +11,4 @@ pub mod QuietNodes
 pub mod RunsAlongChoices
 pub mod RunsThroughKnown
 pub mod RunsToNodes
+pub mod SameRuns

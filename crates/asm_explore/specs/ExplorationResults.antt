@@ -6,23 +6,24 @@
 --     IsEarliest           no run goes wrong before a fault of this step. A deadlock after as many
 --                          steps as lead to the step that has another fault comes first, unless its
 --                          own step has too many outcomes to tell
---     IsBadRun             the text is that of the lines of a script, under which the run of
---                          `bad.step` steps goes wrong in the last of them, and none before
---     IsUnwritten          so does a run under a script whose text is too long, or has a number of
---                          more than nine digits
+--     IsBadRun             the text is that of the lines of a script, under which the run goes wrong
+--                          in step `bad.step`, and none before; a deadlock is the state that this
+--                          step begins in. They are those of the choices that this run makes
+--     IsUnwritten          so does the run under a script, and the lines of the choices that it
+--                          makes are too long for a script
 --     Claims               what each finding says, when these states were reached
 --     IsReachedBy          a run of at most `depth` steps comes to the state
 --     IsLookedThrough      each state that runs are followed from was looked at, if fewer steps
 --                          lead to it than the finding says, or whatever their number
 --     IsQuietRun           the run of `rest.steps` steps under the script comes to a quiet state,
---                          and no shorter one does
+--                          and no shorter one does; its lines are those of the choices of this run
 --     IsExplorationResult  what the whole result says
 use Rattle.std.specs.Prelude.{◌≡◌, ◌≢◌, ◌≤◌, ◌<◌, ◌⊎◌, ◌-◌, ℕ, suc, Bool, true, false, List, length, take, Option, Some, None, IfSome}
 use Rattle.std.specs.String.{string_bytes}
 use Rattle.asm_state.specs.Location.{State}
 use Rattle.asm_reader.specs.code.ExactLines.{exactly}
 use Rattle.asm_reader.specs.ScriptLines.{Line, Script}
-use Rattle.asm_reader.specs.ScriptText.{IsScript, max_script}
+use Rattle.asm_reader.specs.ScriptText.{IsScript}
 use Rattle.asm_meaning.specs.Run.{AtLimit, Specification, run}
 use Rattle.asm_explore.specs.declared.exploration_result.ExplorationResult.{ExplorationResult}
 use Rattle.asm_explore.specs.declared.exploration_result.BadRun.{BadRun}
@@ -33,10 +34,11 @@ use Rattle.asm_explore.specs.declared.fault.Fault.{Fault}
 use Rattle.asm_explore.specs.declared.fault.Fault.TheVariants as fault
 use Rattle.asm_explore.specs.declared.outcomes.outcomes_error.RuleOverLimit.{RuleOverLimit}
 use Rattle.asm_explore.specs.declared.exploration_result.Finding.TheVariants as finding
+use Rattle.asm_explore.specs.ChosenLines.{AreTooLong, chosen_lines}
 use Rattle.asm_explore.specs.code.ListElements.{Each}
-use Rattle.asm_explore.specs.Search.{IsQuiet, IsDeadlock, IsSafeUpTo, IsSafe, HoldsBefore, HoldsAlways, EndsSo, StaysWithin}
+use Rattle.asm_explore.specs.Search.{IsQuiet, IsDeadlock, IsSafeUpTo, IsSafe, HoldsBefore, HoldsAlways, GoesWrongIn, StaysWithin, steps_to}
 use Rattle.asm_explore.specs.StateLists.{AreDifferent, Counts, IsAmongFirst}
-use Rattle.asm_explore.specs.code.WrittenScripts.{AnyIsLong, IsTextOf, lines_text, numbers_in}
+use Rattle.asm_explore.specs.code.WrittenScripts.{IsTextOf}
 
 -- up to how many steps it is safe, if that is known
 abbrev pub known_to : Option ℕ → ℕ
@@ -55,6 +57,7 @@ module _ (specification : Specification) (turns : ℕ) (within : State → Bool)
     pub lines : List Line
     pub text : IsTextOf lines (string_bytes rest.script)
     pub spelled : IsScript (string_bytes rest.script) (exactly lines)
+    pub chosen : lines ≡ chosen_lines specification turns (exactly lines) rest.steps
     pub end : (run specification turns (exactly lines) rest.steps).end ≡ AtLimit
     pub quiet : IsQuiet specification turns (run specification turns (exactly lines) rest.steps).last
     pub stays : StaysWithin specification turns within (exactly lines) (suc rest.steps)
@@ -70,11 +73,6 @@ module _ (specification : Specification) (turns : ℕ) (within : State → Bool)
   IsLookedThrough looked (finding.TooManyOutcomes safe crowd) = HoldsBefore specification turns within looked (known_to safe)
   IsLookedThrough looked (finding.NoMemory safe) = HoldsBefore specification turns within looked (known_to safe)
   IsLookedThrough looked (finding.Unwritten unwritten) = HoldsBefore specification turns within looked (unwritten.step - 1)
-
--- the steps that lead to a fault of a step; a deadlock is the state that the step begins in
-abbrev pub steps_to : Fault → (step : ℕ) → ℕ
-steps_to fault.Deadlock step = step - 1
-steps_to _ step = step
 
 -- how many steps lead at most to the states that are looked at first, when it is safe so far
 abbrev pub beyond : Option ℕ → ℕ
@@ -113,16 +111,17 @@ module _ (specification : Specification) (turns : ℕ) (crowds : State → RuleO
     pub lines : List Line
     pub text : IsTextOf lines (string_bytes bad.script)
     pub spelled : IsScript (string_bytes bad.script) (exactly lines)
-    pub wrong : EndsSo right (IsDeadlock specification turns rests) bad.fault bad.step (run specification turns (exactly lines) bad.step)
+    pub chosen : lines ≡ chosen_lines specification turns (exactly lines) (steps_to bad.fault bad.step)
+    pub wrong : GoesWrongIn specification turns right rests (exactly lines) bad.fault bad.step
     pub stays : StaysWithin specification turns within (exactly lines) bad.step
     pub earliest : IsEarliest bad.fault bad.step
 
-  -- the same, but the script has no text
+  -- the same, but the lines have no text
   pub record IsUnwritten (unwritten : Unwritten) : Type 0 where
-    pub lines : List Line
-    pub wrong : EndsSo right (IsDeadlock specification turns rests) unwritten.fault unwritten.step (run specification turns (exactly lines) unwritten.step)
-    pub stays : StaysWithin specification turns within (exactly lines) unwritten.step
-    pub long : AnyIsLong (numbers_in lines) ⊎ (max_script < length (lines_text lines))
+    pub script : Script
+    pub wrong : GoesWrongIn specification turns right rests script unwritten.fault unwritten.step
+    pub stays : StaysWithin specification turns within script unwritten.step
+    pub long : AreTooLong (chosen_lines specification turns script (steps_to unwritten.fault unwritten.step))
     pub earliest : IsEarliest unwritten.fault unwritten.step
 
   -- of too many outcomes there is a state whose step has them
@@ -149,4 +148,4 @@ module _ (specification : Specification) (turns : ℕ) (crowds : State → RuleO
     pub looked : ℕ
     pub quiet : Counts (λ A. (within A ≡ true) × IsQuiet specification turns A) (take looked reached) answer.quiet
     pub through : IsLookedThrough specification turns within (IsAmongFirst looked reached) answer.finding
-    pub rest : IfSome answer.first_quiet (IsQuietRun specification turns within)
+    pub rest : IfSome answer.first_quiet (λ rest. (0 < answer.quiet) × IsQuietRun specification turns within rest)

@@ -5,4 +5,5 @@ pub mod Conditions
 pub mod ChoicesMadeLaws
 pub mod ChoicePoints
 pub mod RunChoices
+pub mod ChosenLines
 pub mod code

@@ -12,10 +12,13 @@
 --                                 than `depth` steps lead to; and of all of them
 --     EndsSo                  a run ends in this step by this fault, or in a state that isn't
 --                             right, or in a deadlock
+--     steps_to                the steps that lead to a fault of a step; a deadlock is the state that
+--                             the step begins in
+--     GoesWrongIn             a run goes wrong in this step by this fault
 --     Covers                  states by the depth up to which they are known: they are right, and
 --                             no step from one of them that is within has a fault, nor leads to a
 --                             state that isn't known one step deeper
-use Rattle.std.specs.Prelude.{◌≡◌, ℕ, suc, ◌≤◌, ◌<◌, Bool, true, false, []}
+use Rattle.std.specs.Prelude.{◌≡◌, ℕ, suc, ◌≤◌, ◌<◌, ◌-◌, Bool, true, false, []}
 use Rattle.asm_state.specs.Location.{State}
 use Rattle.asm_state.specs.Updates.{UpdateSet, IsConsistent, fire}
 use Rattle.asm_reader.specs.ScriptLines.{Script}
@@ -70,6 +73,14 @@ EndsSo right dead fault.Exhausted step r = (q : Path) × (r.end ≡ AtExhausted 
 EndsSo right dead fault.Inconsistent step r = (U : UpdateSet) × (r.end ≡ AtFault step U) × ¬ (IsConsistent U)
 EndsSo right dead fault.Wrong step r = (r.end ≡ AtLimit) × (right r.last ≡ false)
 EndsSo right dead fault.Deadlock step r = (r.end ≡ AtLimit) × dead r.last
+
+abbrev pub steps_to : Fault → (step : ℕ) → ℕ
+steps_to fault.Deadlock step = step - 1
+steps_to _ step = step
+
+abbrev pub GoesWrongIn : Specification → (turns : ℕ) → (right rests : State → Bool) → Script → Fault → (step : ℕ) → Type 0
+GoesWrongIn specification turns right rests script kind step =
+    EndsSo right (IsDeadlock specification turns rests) kind step (run specification turns script (steps_to kind step))
 
 pub record Covers (specification : Specification) (turns : ℕ) (within : State → Bool) (ok : State → Type 0) (depth : ℕ) (known : ℕ → State → Type 0) : Type 0 where
   pub begins : known 0 specification.initial

@@ -13,8 +13,8 @@ pub struct BadRun {
     pub fault: Fault,
 }
 
-/// A run that goes wrong, under a script that is longer than a script may be, or has a number of
-/// more than nine digits.
+/// A run that goes wrong, whose choices have no script: their lines are longer than a script may be,
+/// or have a number of more than nine digits.
 #[derive(Clone, Copy, Debug, PartialEq, Eq)]
 pub struct Unwritten {
     /// The run goes wrong in this step, and no run goes wrong before.

@@ -1,5 +1,5 @@
 //! The exploration of a machine, and its result.
-ghost use Rattle.std.specs.Prelude.{◌≡◌, ◌≢◌, ◌∷◌, ◌<◌, ◌≤◌, ℕ, List, suc, Some, true, IfOk, IfSome, length, slice_get};
+ghost use Rattle.std.specs.Prelude.{◌≡◌, ◌≢◌, ◌∷◌, ◌<◌, ◌≤◌, ◌+◌, ℕ, List, suc, Some, true, IfOk, IfSome, length, slice_get};
 ghost use Rattle.asm_state.specs.code.Contents.{IsStateOf};
 ghost use Rattle.asm_state.specs.Location.{State as Contents};
 ghost use Rattle.asm_state.specs.Signature.{count_of, state_of};
@@ -10,14 +10,14 @@ ghost use Rattle.asm_explore.specs.code.OutcomeLists.{Each};
 ghost use Rattle.asm_explore.specs.code.QuietStates.{IsFirstQuiet};
 ghost use Rattle.asm_explore.specs.code.ReachedStates.{AreInside, GoesWrongSo, IsGood, IsLinked, Rises};
 ghost use Rattle.asm_explore.specs.code.StepOutcomes.{IsOverLimitOf};
-ghost use Rattle.asm_explore.specs.Search.{HoldsBefore, IsDeadlock, IsSafeUpTo};
+ghost use Rattle.asm_explore.specs.Search.{HoldsBefore, IsDeadlock, IsSafeUpTo, steps_to};
 ghost use Rattle.asm_explore.specs.StateLists.{IsAmongFirst};
 
 use crate::exploration_result::{BadRun, ExplorationResult, Finding, QuietRun, Unwritten};
+use crate::fault::Fault;
 use crate::machine::Machine;
 use crate::outcomes::listed_outcome::Choice;
 use crate::progress::{Progress, Watch};
-use crate::scripts::script_to::script_to;
 use crate::search::explore;
 use crate::search_error::SearchError;
 use crate::search_result::{BadStep, SearchEnd, SearchResult};
@@ -26,7 +26,6 @@ use crate::states::nodes::Nodes;
 use crate::states::trail::trail_to;
 use crate::too_many_states::too_many_states;
 use asm_state::state::State;
-use asm_syntax::InputError;
 use std::alloc::{AllocError, Global};
 
 /// The depth of the last node, which no other is above.
@@ -36,6 +35,17 @@ fn greatest_depth(nodes: &Nodes) -> u32
 {
     let count = nodes.len();
     if count > 0 { nodes.depth(count - 1) } else { 0 }
+}
+
+/// The steps that lead to a fault of the step after `before` steps. A deadlock is there before it.
+fn steps_to(fault: Fault, before: u32) -> u32
+    requires { fault ≢ Deadlock → before < 4_294_967_295 }
+    ensures { result ≡ steps_to fault (before + 1) }
+{
+    match fault {
+        Fault::Deadlock => before,
+        Fault::Exhausted | Fault::Inconsistent | Fault::Wrong => before + 1,
+    }
 }
 
 /// What is found if the step of a node goes wrong, up to whose depth no run does.
@@ -76,14 +86,13 @@ fn bad_run<M: Machine>(
     };
     let (step, fault) = (u64::from(whole) + 1, bad.fault);
     let back = with_first(bad.choices, trail)?;
-    match script_to(alloc, back.as_slice()) {
-        Ok(script) => Ok(Finding::BadStep(BadRun {
+    match machine.chosen_text(alloc, back.as_slice(), steps_to(fault, whole))? {
+        Some(script) => Ok(Finding::BadStep(BadRun {
             script,
             step,
             fault,
         })),
-        Err(InputError::Memory) => Err(AllocError),
-        Err(InputError::Named(_)) => Ok(Finding::Unwritten(Unwritten { step, fault })),
+        None => Ok(Finding::Unwritten(Unwritten { step, fault })),
     }
 }
 
@@ -111,7 +120,8 @@ fn quiet_run<M: Machine>(
     requires linked { Each (IsLinked (M.shape machine.now) (M.specification machine.now) (M.turns machine.now) nodes.now) nodes.now }
     requires inside { AreInside (M.shape machine.now) (M.specification machine.now) (M.turns machine.now) (M.within machine.now) nodes.now }
     requires first { IsFirstQuiet (M.shape machine.now) (M.specification machine.now) (M.turns machine.now) (M.within machine.now) nodes.now quiet.now }
-    ensures { IfSome result (IsQuietRun (M.specification machine.now) (M.turns machine.now) (M.within machine.now)) }
+    ensures run { IfSome result (IsQuietRun (M.specification machine.now) (M.turns machine.now) (M.within machine.now)) }
+    ensures some { IfSome result (λ run. 0 < length quiet.now) }
 {
     if quiet.len() == 0 {
         return None;
@@ -120,14 +130,14 @@ fn quiet_run<M: Machine>(
     let Ok(trail) = trail_to(alloc, machine, nodes, first, initial) else {
         return None;
     };
-    let back = trail.as_slice();
-    let Ok(script) = script_to(alloc, back) else {
-        return None;
-    };
-    Some(QuietRun {
-        script,
-        steps: back.len() as u64,
-    })
+    let steps = nodes.depth(first);
+    match machine.chosen_text(alloc, trail.as_slice(), steps) {
+        Ok(Some(script)) => Some(QuietRun {
+            script,
+            steps: u64::from(steps),
+        }),
+        Ok(None) | Err(AllocError) => None,
+    }
 }
 
 /// Looks through all runs of `steps` steps, of at most `limit` states.

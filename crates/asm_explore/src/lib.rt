@@ -25,6 +25,7 @@ mod too_many_states;
 pub mod updates;
 
 pub use choices::choice_point::ChoicePoint;
+pub use choices::chosen_text::chosen_text;
 pub use choices::run_choices::{RunChoices, choices_of_run, choices_of_step, lines_of_run};
 pub use exploration::Exploration;
 pub use exploration_result::{BadRun, ExplorationResult, Finding, QuietRun, Unwritten};

@@ -1,17 +1,21 @@
 //! Machines: what is explored.
-ghost use Rattle.std.specs.Prelude.{◌≡◌, ◌<◌, ◌↔◌, ℕ, Bool, List, length, take, IsTrue, IfOk, IfErr};
+ghost use Rattle.std.specs.Prelude.{◌≡◌, ◌<◌, ◌↔◌, ℕ, Bool, List, length, map, take, IsTrue, IfOk, IfErr, IfNone, IfSome};
+ghost use Rattle.std.specs.String.{string_bytes};
 ghost use Rattle.asm_state.specs.code.Contents.{IsStateOf};
 ghost use Rattle.asm_state.specs.Location.{State as Contents};
 ghost use Rattle.asm_state.specs.Signature.{Shape, count_of, state_of};
+ghost use Rattle.asm_reader.specs.code.ExactLines.{exactly};
 ghost use Rattle.asm_meaning.specs.Run.{Specification};
 ghost use Rattle.asm_explore.specs.declared.outcomes.listed_outcome.Choice.{Choice};
 ghost use Rattle.asm_explore.specs.code.OutcomeLists.{Situation, Each};
 ghost use Rattle.asm_explore.specs.code.StepsAhead.{AreAhead};
 ghost use Rattle.asm_explore.specs.code.StepOutcomes.{IsListed, IsOverLimitOf};
 ghost use Rattle.asm_explore.specs.code.SearchEnds.{HaltsSo};
+ghost use Rattle.asm_explore.specs.code.ScriptTo.{lines_of};
+ghost use Rattle.asm_explore.specs.ChosenLines.{AreTooLong, IsChosenText, chosen_lines};
 ghost use Rattle.asm_explore.specs.Search.{IsQuiet};
 
-use crate::outcomes::listed_outcome::ListedOutcome;
+use crate::outcomes::listed_outcome::{Choice, ListedOutcome};
 use crate::outcomes::outcomes_error::OutcomesError;
 use crate::search_error::SearchError;
 use crate::states::index::Index;
@@ -88,6 +92,19 @@ pub trait Machine {
         requires nodes { Each (λ n. length n.state ≡ count_of (shape self.now)) nodes.now }
         ensures some { 0 < length states.now → IfOk result (λ all. 0 < length all.items) }
         ensures ahead { IfOk result (λ all. AreAhead (shape self.now) (specification self.now) (turns self.now) nodes.now (take (length all.items) states.now) all.items) };
+
+    /// The text of the script that a run of `steps` steps needs: with a line for each choice that it
+    /// makes, unless it takes the first candidate. It is the run that makes these choices of its
+    /// steps, those of the last of them first. There is none if the lines are too long for a script.
+    fn chosen_text(
+        &self,
+        alloc: Global,
+        back: &[Vec<Choice>],
+        steps: u32,
+    ) -> Result<Option<String>, AllocError>
+        requires sound { is_sound self.now }
+        ensures some { IfOk result (λ found. IfSome found (λ text. IsChosenText (specification self.now) (turns self.now) (exactly (lines_of (map (λ cs. cs.items) back.now))) steps (string_bytes text))) }
+        ensures none { IfOk result (λ found. IfNone found (AreTooLong (chosen_lines (specification self.now) (turns self.now) (exactly (lines_of (map (λ cs. cs.items) back.now))) steps))) };
 
     /// Whether the state is right.
     fn is_right(&self, alloc: Global, state: &State) -> bool

@@ -1,6 +1,6 @@
 //! Scripts that are written: their lines and their texts.
 
 pub mod script_line;
-pub mod script_to;
+pub mod trail_script;
 pub mod writing;
 pub mod writing_error;

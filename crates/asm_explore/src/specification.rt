@@ -14,14 +14,16 @@ ghost use Rattle.asm_explore.specs.code.OutcomeLists.{Each};
 ghost use Rattle.asm_explore.specs.code.ChoicesMade.{made_in};
 ghost use Rattle.asm_explore.specs.code.StepOutcomes.{IsListed};
 
+use crate::choices::chosen_text::chosen_text;
 use crate::exploration::Exploration;
 use crate::look_ahead::look_ahead;
 use crate::machine::{Listed, Machine};
 use crate::outcomes::list_outcomes::outcomes;
-use crate::outcomes::listed_outcome::ListedOutcome;
+use crate::outcomes::listed_outcome::{Choice, ListedOutcome};
 use crate::outcomes::outcomes_error::OutcomesError;
 use crate::quiet_step::is_quiet_in;
 use crate::resolved_question::ResolvedQuestion;
+use crate::scripts::trail_script::TrailScript;
 use crate::search_error::SearchError;
 use crate::states::index::{Index, MIN_BATCH};
 use crate::states::nodes::Nodes;
@@ -145,6 +147,16 @@ impl<'a> Machine for ResolvedQuestion<'a> {
             all.push(None)?;
         }
         Ok(all)
+    }
+
+    fn chosen_text(
+        &self,
+        alloc: Global,
+        back: &[Vec<Choice>],
+        steps: u32,
+    ) -> Result<Option<String>, AllocError> {
+        let script = TrailScript { back };
+        chosen_text(alloc, self, &script, steps)
     }
 
     fn is_right(&self, alloc: Global, state: &State) -> bool {

@@ -2,7 +2,7 @@
 ghost use Rattle.asm_explore.specs.code.StepsAhead.{AreAhead};
 ghost use Rattle.asm_explore_workers.specs.code.Lists.{LooksAtThem, TakesStates};
 
-use asm_explore::{Index, Listed, Machine, Nodes, SearchError, StepAhead};
+use asm_explore::{Choice, Index, Listed, Machine, Nodes, SearchError, StepAhead};
 use asm_state::signature::Signature;
 use asm_state::state::State;
 use std::alloc::{AllocError, Global};
@@ -67,6 +67,15 @@ impl<'a, M: Machine, F: Fn(Global, &[State], &Nodes, &Index) -> MaybeSteps> Mach
         index: &Index,
     ) -> Result<Vec<Option<StepAhead>>, AllocError> {
         (self.list)(alloc, states, nodes, index)
+    }
+
+    fn chosen_text(
+        &self,
+        alloc: Global,
+        back: &[Vec<Choice>],
+        steps: u32,
+    ) -> Result<Option<String>, AllocError> {
+        self.machine.chosen_text(alloc, back, steps)
     }
 
     fn is_right(&self, alloc: Global, state: &State) -> bool {

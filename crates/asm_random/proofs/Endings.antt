@@ -1,8 +1,7 @@
 -- Free. How a run ends, by its last step.
 --     after_more     the state after one step more
---     ends_wrong     a run of one step more goes wrong if that step does
---     stands_still   a deadlock is there before that step
-use Rattle.std.proofs.Common.{◌≡◌, ℕ, zero, suc, ◌+◌, Bool, true, false, cond, [], ap, sym, subst, ◌∙◌, arith}
+--     goes_wrong     a run goes wrong in the step after those that it makes, if that step does
+use Rattle.std.proofs.Common.{◌≡◌, ℕ, zero, suc, ◌+◌, ◌-◌, Bool, true, false, cond, [], ap, sym, subst, ◌∙◌, arith}
 use Rattle.asm_state.specs.Location.{State}
 use Rattle.asm_state.specs.Updates.{UpdateSet, IsConsistent, is_consistent, fire}
 use Rattle.asm_reader.specs.ScriptLines.{Script}
@@ -13,8 +12,7 @@ use Rattle.asm_meaning.specs.Run.{Run, AtLimit, AtFault, Specification, run, run
 use Rattle.asm_meaning.specs.Yields.{Result, Gives, Exhausted}
 use Rattle.asm_explore.specs.declared.fault.Fault.{Fault}
 use Rattle.asm_explore.specs.declared.fault.Fault.TheVariants as fault
-use Rattle.asm_explore.specs.Search.{EndsSo}
-use Rattle.asm_random.specs.BadDrafts.{StandsStill}
+use Rattle.asm_explore.specs.Search.{GoesWrongIn, IsDeadlock}
 use Rattle.asm_random.specs.code.Replay.{GoesWrong, IsAfter, IsStep}
 
 -- runs that end alike, in one state
@@ -78,27 +76,25 @@ module _ (specification : Specification) (turns : ℕ) (script : Script) where
       ap (λ o. step_of o k A) is ∙ ap (λ b. cond b (fired U (instances_at k A) (ended AtLimit (fire A U))) (ended (AtFault k U) A)) (tests U good) in
       (both.0 ∙ ap (λ (r : Run). r.end) same, both.1 ∙ ap (λ (r : Run). r.last) same ∙ sym leads)
 
-  module _ (right : State → Bool) (dead : State → Type 0) (n : ℕ) (A : State) (tests : (U : UpdateSet) → IsConsistent U → is_consistent U ≡ true) where
-    pub ends_wrong : (f : Fault) → ((U : UpdateSet) → ¬ (IsConsistent U) → is_consistent U ≡ false)
-        → IsAfter specification turns script n A → GoesWrong specification turns script right dead (n + 1) A f → EndsSo right dead f (n + 1) (run specification turns script (n + 1))
-    ends_wrong fault.Exhausted fails after (q, is) =
+  module _ (right rests : State → Bool) (n : ℕ) (A : State) (tests : (U : UpdateSet) → IsConsistent U → is_consistent U ≡ true) where
+    abbrev dead : State → Type 0
+    dead B = IsDeadlock specification turns rests B
+
+    pub goes_wrong : (f : Fault) → ((U : UpdateSet) → ¬ (IsConsistent U) → is_consistent U ≡ false)
+        → IsAfter specification turns script n A → GoesWrong specification turns script right dead (n + 1) A f → GoesWrongIn specification turns right rests script f (n + 1)
+    goes_wrong fault.Exhausted fails after (q, is) =
         let both = with_step n A after in
         (q, both.0 ∙ ap (λ (o : Result). (step_of o (n + 1) A).end) is)
-    ends_wrong fault.Inconsistent fails after (U, is, bad) =
+    goes_wrong fault.Inconsistent fails after (U, is, bad) =
         let both = with_step n A after in
         let k = n + 1 in
         let same : one_step k A ≡ ended (AtFault k U) A =
         ap (λ o. step_of o k A) is ∙ ap (λ b. cond b (fired U (instances_at k A) (ended AtLimit (fire A U))) (ended (AtFault k U) A)) (fails U bad) in
         (U, both.0 ∙ ap (λ (r : Run). r.end) same, bad)
-    ends_wrong fault.Wrong fails after (B, step, wrong) =
+    goes_wrong fault.Wrong fails after (B, step, wrong) =
         let there = after_more n A B tests after step in
         (there.0, ap right there.1 ∙ wrong)
-    ends_wrong fault.Deadlock fails after (B, step, same, is_dead) =
-        let there = after_more n A B tests after step in
-        (there.0, subst dead (sym there.1) is_dead)
-
-    pub stands_still : (f : Fault) → IsAfter specification turns script n A → GoesWrong specification turns script right dead (n + 1) A f → StandsStill specification turns script (n + 1) f
-    stands_still fault.Exhausted after h = tt
-    stands_still fault.Inconsistent after h = tt
-    stands_still fault.Wrong after h = tt
-    stands_still fault.Deadlock after (B, step, same, is_dead) = (n, omega arith, after.1 ∙ sym same ∙ sym (after_more n A B tests after step).1)
+    goes_wrong fault.Deadlock fails after (B, step, same, is_dead) =
+        let count : n + 1 - 1 ≡ n = omega arith in
+        let last : (run specification turns script (n + 1 - 1)).last ≡ B = ap (λ k. (run specification turns script k).last) count ∙ after.1 ∙ sym same in
+        (ap (λ k. (run specification turns script k).end) count ∙ after.0, subst dead (sym last) is_dead)

@@ -1,7 +1,6 @@
 mod BareViews
 mod DraftLines
 mod DraftRuns
-mod DraftTexts
 mod Endings
 mod FirstFaults
 mod OneStep

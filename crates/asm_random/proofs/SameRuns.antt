@@ -1,7 +1,7 @@
 -- Free. Runs under scripts that are alike.
---     picked_alike     scripts that pick the same have the same runs
 --     picked_until     scripts that pick the same up to a step have the same run up to it
---     wrong_alike      if of two runs that are the same the one goes wrong, the other does
+--     wrong_alike      if of two runs that are the same up to a fault the one goes wrong, the other
+--                      does
 use Rattle.std.proofs.Common.{◌≡◌, ℕ, zero, suc, ◌+◌, ◌<◌, ◌≤◌, Bool, true, false, cond, List, [], ◌∷◌, refl, sym, ap, subst, ◌∙◌, arith}
 use Rattle.asm_state.specs.Location.{State}
 use Rattle.asm_state.specs.Updates.{UpdateSet, is_consistent, fire}
@@ -13,8 +13,8 @@ use Rattle.asm_meaning.specs.Value.{nesting}
 use Rattle.asm_meaning.specs.Yields.{Result, Gives, Exhausted}
 use Rattle.asm_explore.specs.declared.fault.Fault.{Fault}
 use Rattle.asm_explore.specs.declared.fault.Fault.TheVariants as fault
-use Rattle.asm_explore.specs.Search.{EndsSo, IsDeadlock}
-use Rattle.asm_random.specs.BadDrafts.{IsWrongUnder, StandsStill}
+use Rattle.asm_explore.specs.Search.{EndsSo, IsDeadlock, steps_to}
+use Rattle.asm_random.specs.BadDrafts.{IsWrongUnder}
 
 module _ (specification : Specification) (turns : ℕ) where
   abbrev run_by : Script → ℕ → ℕ → State → Run
@@ -42,9 +42,6 @@ module _ (specification : Specification) (turns : ℕ) where
 
   pub picked_until : (s t : Script) (n : ℕ) → ((step : ℕ) (p : List ℕ) → step < 1 + n → pick s step p ≡ pick t step p) → run specification turns s n ≡ run specification turns t n
   picked_until s t n same = runs_until s t n 1 specification.initial same
-
-  pub picked_alike : (s t : Script) → ((step : ℕ) (p : List ℕ) → pick s step p ≡ pick t step p) → (limit : ℕ) → run specification turns s limit ≡ run specification turns t limit
-  picked_alike s t same limit = picked_until s t limit (λ step p low. same step p)
 
   -- ---- the states that a run comes to
 
@@ -77,21 +74,19 @@ module _ (specification : Specification) (turns : ℕ) where
 
   -- ---- runs that go wrong
 
-  still_alike : (s t : Script) (step : ℕ) (f : Fault) → run specification turns s step ≡ run specification turns t step → StandsStill specification turns t step f → StandsStill specification turns s step f
-  still_alike s t step fault.Exhausted same h = tt
-  still_alike s t step fault.Inconsistent same h = tt
-  still_alike s t step fault.Wrong same h = tt
-  still_alike s t step fault.Deadlock same h =
-      let low : h.0 ≤ step = omega (arith, h.1) in
-      (h.0, h.1, last_alike s t step h.0 low same ∙ h.2 ∙ sym (ap (λ (r : Run). r.last) same))
+  before_it : (f : Fault) (step k : ℕ) → k < step → k ≤ steps_to f step
+  before_it fault.Exhausted step k low = omega (arith, low)
+  before_it fault.Inconsistent step k low = omega (arith, low)
+  before_it fault.Wrong step k low = omega (arith, low)
+  before_it fault.Deadlock step k low = omega (arith, low)
 
   module _ (steps : ℕ) (right rests : State → Bool) where
-    pub wrong_alike : (s t : Script) (step : ℕ) (f : Fault) → run specification turns s step ≡ run specification turns t step
+    pub wrong_alike : (s t : Script) (step : ℕ) (f : Fault) → run specification turns s (steps_to f step) ≡ run specification turns t (steps_to f step)
         → IsWrongUnder specification turns steps right rests t step f → IsWrongUnder specification turns steps right rests s step f
     wrong_alike s t step f same h =
         record {
+          counted = h.counted;
           limited = h.limited;
-          ends = subst (EndsSo right (IsDeadlock specification turns rests) f step) (sym same) h.ends;
-          still = still_alike s t step f same h.still;
-          before = λ k low. let less : k ≤ step = omega (arith, low) in ap right (last_alike s t step k less same) ∙ h.before k low;
+          wrong = subst (EndsSo right (IsDeadlock specification turns rests) f step) (sym same) h.wrong;
+          before = λ k low. ap right (last_alike s t (steps_to f step) k (before_it f step k low) same) ∙ h.before k low;
         }

@@ -1,6 +1,7 @@
 -- Definition. What a result claims of random runs.
 --     IsBadDraft run        the run under the draft goes wrong
---     IsBadScript bad       the text is a script, under which the run goes wrong
+--     IsBadScript bad       the text is that of the lines of a script, under which the run goes
+--                           wrong; they are those of the choices that this run makes
 --     IsUnwrittenRun        the run under a script goes wrong, and the lines of the choices that it
 --                           makes are too long for a script
 --     Claims                what each finding says of the run that goes wrong, if there is one
@@ -8,11 +9,11 @@
 --                           are asked for, and the runs before it are fine
 --     Counts                how many runs and steps were made: without a bad run as many as are
 --                           asked for, all of which are fine
-use Rattle.std.specs.Prelude.{◌≡◌, ◌+◌, ◌≤◌, ℕ, suc, Bool, false}
+use Rattle.std.specs.Prelude.{◌≡◌, ◌+◌, ◌≤◌, ℕ, suc, Bool, false, List}
 use Rattle.std.specs.String.{string_bytes}
 use Rattle.asm_state.specs.Location.{State}
 use Rattle.asm_reader.specs.code.ExactLines.{exactly}
-use Rattle.asm_reader.specs.ScriptLines.{Script}
+use Rattle.asm_reader.specs.ScriptLines.{Line, Script}
 use Rattle.asm_reader.specs.ScriptText.{IsScript}
 use Rattle.asm_meaning.specs.Run.{Specification}
 use Rattle.asm_explore.specs.declared.exploration_result.BadRun.{BadRun}
@@ -22,7 +23,9 @@ use Rattle.asm_random.specs.declared.random_result.RandomFinding.{RandomFinding}
 use Rattle.asm_random.specs.declared.random_result.RandomFinding.TheVariants as finding
 use Rattle.asm_random.specs.declared.bad_draft.BadDraft.{BadDraft}
 use Rattle.asm_random.specs.BadDrafts.{IsWrongUnder}
-use Rattle.asm_random.specs.ChosenLines.{AreTooLong, chosen_lines}
+use Rattle.asm_explore.specs.ChosenLines.{AreTooLong, chosen_lines}
+use Rattle.asm_explore.specs.Search.{steps_to}
+use Rattle.asm_explore.specs.code.WrittenScripts.{IsTextOf}
 use Rattle.asm_random.specs.Drafts.{draft_lines}
 use Rattle.asm_random.specs.FineRuns.{AreFine}
 
@@ -35,14 +38,16 @@ module _ (specification : Specification) (turns steps : ℕ) (right : State → 
     IsBadDraft r = IsWrong (exactly (draft_lines r.draft)) r.wrong.step r.wrong.fault
 
     pub record IsBadScript (bad : BadRun) : Type 0 where
-      pub script : Script
-      pub spelled : IsScript (string_bytes bad.script) script
-      pub wrong : IsWrong script bad.step bad.fault
+      pub lines : List Line
+      pub text : IsTextOf lines (string_bytes bad.script)
+      pub spelled : IsScript (string_bytes bad.script) (exactly lines)
+      pub chosen : lines ≡ chosen_lines specification turns (exactly lines) (steps_to bad.fault bad.step)
+      pub wrong : IsWrong (exactly lines) bad.step bad.fault
 
     pub record IsUnwrittenRun (unwritten : Unwritten) : Type 0 where
       pub script : Script
       pub wrong : IsWrong script unwritten.step unwritten.fault
-      pub long : AreTooLong (chosen_lines specification turns script unwritten.step)
+      pub long : AreTooLong (chosen_lines specification turns script (steps_to unwritten.fault unwritten.step))
 
     abbrev pub Claims : RandomFinding → Type 0
     Claims finding.Nothing = Unit {0}

@@ -1,5 +1,6 @@
 //! Runs under a script.
 ghost use Rattle.std.specs.Prelude.{◌≡◌, IfNone, IfOk, IfSome};
+ghost use Rattle.asm_explore.specs.Search.{steps_to};
 ghost use Rattle.asm_random.specs.BadDrafts.{IsWrongUnder};
 ghost use Rattle.asm_random.specs.FineRuns.{IsFineRun};
 ghost use Rattle.asm_random.specs.code.FaultKinds.{is_deadlock};
@@ -29,6 +30,16 @@ impl BadEnd {
         match self.fault {
             Fault::Deadlock => true,
             Fault::Exhausted | Fault::Inconsistent | Fault::Wrong => false,
+        }
+    }
+
+    /// The steps that lead to it. A deadlock is the state that its step begins in.
+    pub(crate) fn steps_to_it(self) -> u32
+        ensures { result ≡ steps_to self.fault self.step }
+    {
+        match self.fault {
+            Fault::Deadlock => self.step.saturating_sub(1),
+            Fault::Exhausted | Fault::Inconsistent | Fault::Wrong => self.step,
         }
     }
 }

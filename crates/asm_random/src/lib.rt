@@ -16,7 +16,6 @@ pub mod random;
 pub mod random_result;
 mod random_run;
 mod random_source;
-mod script_text;
 mod shortening;
 mod stepping;
 

@@ -2,6 +2,8 @@
 --     lines_back          the lines of steps are those of the steps in the other order
 --     all_apart           the choices of each step lie at paths of their own
 --     makes_the_run       a script with a line for each choice makes the run
+--     needed_again        so does one with a line for each of them that isn't of a first candidate;
+--                         and its run makes the same choices
 --     choices_are         the choices of what is asked in each step
 use Rattle.std.proofs.Common.{◌++◌, ◌≡◌, ◌∙◌, ℕ, zero, suc, Bool, true, false, cond, List, [], ◌∷◌, length, map, refl, sym, ap, subst, append_assoc, append-nil}
 use Rattle.asm_state.specs.Location.{State}
@@ -14,7 +16,7 @@ use Rattle.asm_reader.specs.ScriptLines.{Script, pick}
 use Rattle.asm_meaning.specs.Declarations.{specification_of}
 use Rattle.asm_meaning.specs.Does.{Outcome, does}
 use Rattle.asm_meaning.specs.Program.{nothing_bound}
-use Rattle.asm_meaning.specs.Run.{Run, Specification, run_from, step_and, fired, ended, AtFault}
+use Rattle.asm_meaning.specs.Run.{Run, Specification, run, run_from, step_and, fired, ended, AtFault}
 use Rattle.asm_meaning.specs.Yields.{Result, Gives, Exhausted}
 use Rattle.asm_code.specs.code.RuleTree.{RuleCode}
 use Rattle.asm_resolve.specs.code.ResolvingLaws.{ResolvingLaws}
@@ -27,9 +29,9 @@ use Rattle.asm_explore.specs.code.ChoicesMade.{made_in}
 use Rattle.asm_explore.specs.code.ChoicePaths.{HaveOwnPaths}
 use Rattle.asm_explore.specs.code.ReachedStates.{MakesAll, steps_from}
 use Rattle.asm_explore.specs.RunChoices.{of_run, from_step, lines_from, lines_forward, MakesTheRun}
-use Rattle.asm_explore.specs.code.ScriptTo.{lines_for, lines_of}
+use Rattle.asm_explore.specs.code.ScriptTo.{lines_for, lines_of, needed}
 use Rattle.asm_explore.proofs.ChoiceLemmas.AskedMade.{made_asked}
-use Rattle.asm_explore.proofs.ScriptLemmas.ScriptToState.{lines_apart, lines_make}
+use Rattle.asm_explore.proofs.ScriptLemmas.ScriptToState.{lines_apart, lines_make, needed_make}
 use Rattle.asm_explore.proofs.ChoiceLemmas.MadeAlike.{rule_alike}
 use Rattle.asm_explore.proofs.ChoiceLemmas.MadePlaces.{rule_placed}
 
@@ -148,6 +150,27 @@ module _ (spec : Spec) (turns : ℕ) (main : RuleCode) (resolving : ResolvingLaw
       ∙ then_alike o.result o.instances i A (λ U. choices_by n (suc i) (fire A U)) (λ U. run_by other n (suc i) (fire A U)) (λ U. run_by script n (suc i) (fire A U))
       (λ U. run_alike n (suc i) (fire A U)) h.1
 
+  -- ---- and its choices
+
+  good_steps : (b : Bool) (i : ℕ) (xs ys : List (List Choice)) → (MakesFrom other i ys → xs ≡ ys) → MakesFrom other i (cond b ys []) → cond b xs [] ≡ cond b ys []
+  good_steps true i xs ys f h = f h
+  good_steps false i xs ys f h = refl
+
+  then_steps : (r : Result) (i : ℕ) (xs ys : UpdateSet → List (List Choice)) → ((U : UpdateSet) → MakesFrom other i (ys U) → xs U ≡ ys U) → MakesFrom other i (after_set r ys)
+      → after_set r xs ≡ after_set r ys
+  then_steps (Exhausted q) i xs ys f h = refl
+  then_steps (Gives U) i xs ys f h = good_steps (is_consistent U) i (xs U) (ys U) (f U) h
+
+  choices_alike : (n i : ℕ) (A : State) → MakesFrom other i (choices_by n i A) → from_step specification turns (made_in (shape_of spec) turns main) other n i A ≡ choices_by n i A
+  choices_alike zero i A h = refl
+  choices_alike (suc n) i A h =
+      let here = (rule_alike (pick other i) (shape_of spec) turns (pick script i) main [] [] A [] h.0).1 in
+      let same = ap (λ (o : Outcome). o.result) (step_alike i A h.0) in
+      let rest = λ (U : UpdateSet). from_step specification turns (made_in (shape_of spec) turns main) other n (suc i) (fire A U) in
+      (λ j. here j ∷ after_set (same j) rest)
+      ∙ ap (λ xs. made_in (shape_of spec) turns main A (record { script = script; step = i }) ∷ xs)
+      (then_steps (steps_from specification turns A (record { script = script; step = i })) (suc i) rest (λ U. choices_by n (suc i) (fire A U)) (λ U. choices_alike n (suc i) (fire A U)) h.1)
+
 pub makes_the_run : (spec : Spec) (turns : ℕ) (main : RuleCode) → ResolvingLaws → resolved_rule_in spec [] (specification_of spec).main main → (script : Script) (limit : ℕ) (steps : List (List Choice))
     → steps ≡ of_run (specification_of spec) turns (made_in (shape_of spec) turns main) script limit
     → MakesTheRun (specification_of spec) turns script limit (lines_forward steps)
@@ -163,3 +186,23 @@ makes_the_run spec turns main resolving resolved script limit steps are =
       unrepeated = lines_apart back apart;
       again = run_alike spec turns main resolving resolved script (exactly (lines_of back)) limit 1 specification.initial made.1;
     }))
+
+-- with the lines alone that aren't of first candidates
+pub needed_again : (spec : Spec) (turns : ℕ) (main : RuleCode) → ResolvingLaws → resolved_rule_in spec [] (specification_of spec).main main → (script : Script) (limit : ℕ) (steps : List (List Choice))
+    → steps ≡ of_run (specification_of spec) turns (made_in (shape_of spec) turns main) script limit
+    → (run (specification_of spec) turns (exactly (needed (lines_forward steps))) limit ≡ run (specification_of spec) turns script limit)
+    × (of_run (specification_of spec) turns (made_in (shape_of spec) turns main) (exactly (needed (lines_forward steps))) limit ≡ steps)
+needed_again spec turns main resolving resolved script limit steps are =
+    let specification = specification_of spec in
+    let makes = made_in (shape_of spec) turns main in
+    let run_steps = of_run specification turns makes script limit in
+    let back = turned [] run_steps in
+    let apart = turned_each HaveOwnPaths [] run_steps tt (all_apart specification turns (shape_of spec) main script limit) in
+    let other = exactly (needed (lines_of back)) in
+    let made = turned_made other [] run_steps (needed_make back apart) in
+    let same : lines_of back ≡ lines_forward steps = lines_back run_steps ∙ ap lines_forward (sym are) in (
+      subst (λ ls. run specification turns (exactly (needed ls)) limit ≡ run specification turns script limit) same
+          (run_alike spec turns main resolving resolved script other limit 1 specification.initial made.1),
+      subst (λ ls. of_run specification turns makes (exactly (needed ls)) limit ≡ steps) same
+          (choices_alike spec turns main resolving resolved script other limit 1 specification.initial made.1 ∙ sym are),
+    )

@@ -5,7 +5,6 @@
 --     comes, is_first     a node comes from another, or is the first one
 --     leads_back          the choices of one more step after those of others
 --     leads_apart         those of each step are at paths of their own
---     long_text           why a script has no text
 use Rattle.std.proofs.Common.{◌≡◌, ℕ, ◌<◌, Bool, List, [], ◌∷◌, ◌++◌, ◌⊎◌, inl, inr, length, map, ap, sym, subst, ◌∙◌, arith, append_assoc, Vec, Global}
 use Rattle.std.specs.Prelude.{slice_get, Some}
 use Rattle.std.proofs.lemmas.List.{map-append}
@@ -67,7 +66,3 @@ leads_back xs ys cs back is =
 pub leads_apart : (specification : Specification) (turns : ℕ) (within : State → Bool) (back : List (List Choice)) (B : State) → LeadTo specification turns within B back → Each HaveOwnPaths back
 leads_apart specification turns within [] B leads = tt
 leads_apart specification turns within (cs ∷ back) B leads = (leads.3.apart, leads_apart specification turns within back leads.0 leads.1)
-
-pub long_text : (numbers text : List ℕ) (e : WritingError) → IsTextRefusal numbers text (Named e) → AnyIsLong numbers ⊎ (max_script < length text)
-long_text numbers text TooLong h = inr h
-long_text numbers text LongNumber h = inl h

@@ -5,7 +5,7 @@
 --     needed_alike       what is picked by it is picked if the lines of first candidates are left
 --                        out
 --     needed_make        so that those make all choices too
---     lines_counted      steps count from 1
+--     for_counted        steps count from 1
 use Rattle.std.proofs.Common.{◌≡◌, ◌≢◌, ◌≤◌, ℕ, suc, Bool, true, false, not, cond, ◌&&◌, List, [], ◌∷◌, ◌++◌, length, Some, None, refl, sym, ap, ◌∙◌, arith}
 use Rattle.std.specs.Bool.{Decides, nat_eq}
 use Rattle.std.specs.Cmp.Lexicographic.{pointwise}
@@ -210,9 +210,3 @@ needed_make back apart =
 
 pub for_counted : (step : ℕ) (cs : List Choice) → 1 ≤ step → Each (λ l. 1 ≤ l.step) (lines_for step cs)
 for_counted step cs some = each_weaker (λ l. l.step ≡ step) (λ l. 1 ≤ l.step) (λ l is. omega (arith, is, some)) (lines_for step cs) (for_step step cs)
-
--- steps count from 1
-pub lines_counted : (back : List (List Choice)) → Each (λ l. 1 ≤ l.step) (lines_of back)
-lines_counted [] = tt
-lines_counted (cs ∷ back) =
-    each_append (λ l. 1 ≤ l.step) (lines_of back) (lines_for (suc (length back)) cs) (lines_counted back) (for_counted (suc (length back)) cs (omega arith))

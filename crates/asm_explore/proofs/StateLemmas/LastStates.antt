@@ -13,7 +13,7 @@ use Rattle.std.proofs.lemmas.Option.{slice_get_within}
 use Rattle.asm_state.specs.Location.{State}
 use Rattle.asm_state.specs.Signature.{Shape}
 use Rattle.asm_meaning.specs.Run.{Specification}
-use Rattle.asm_explore.specs.ExplorationResults.{IsAliveOrCrowded, IsSafeIf, beyond, steps_to}
+use Rattle.asm_explore.specs.ExplorationResults.{IsAliveOrCrowded, IsSafeIf, beyond}
 use Rattle.asm_explore.specs.declared.fault.Fault.{Fault}
 use Rattle.asm_explore.specs.declared.fault.Fault.TheVariants as fault
 use Rattle.asm_explore.specs.declared.outcomes.outcomes_error.RuleOverLimit.{RuleOverLimit}
@@ -31,7 +31,7 @@ use Rattle.asm_explore.specs.code.QuietStates.{IsRested}
 use Rattle.asm_explore.specs.code.ReachedStates.{AtNode, GoesWrong, GoesWrongSo, IsBad, IsLooked, IsSearched, state_at, steps_from}
 use Rattle.asm_explore.specs.code.SearchEnds.{IfBad, IfOverLimit}
 use Rattle.asm_explore.specs.code.SettledEnds.{IsSettled}
-use Rattle.asm_explore.specs.Search.{HoldsBefore, IsDeadlock, IsSafeUpTo}
+use Rattle.asm_explore.specs.Search.{HoldsBefore, IsDeadlock, IsSafeUpTo, steps_to}
 use Rattle.asm_explore.proofs.StateLemmas.Batches.{same_node, shallow_at}
 use Rattle.asm_explore.proofs.StateLemmas.MoreNodes.{each_got, holds_before, holds_with, looked_whole, search_covers}
 use Rattle.asm_explore.proofs.StateLemmas.QuietNodes.{alive_whole, each_got_of}

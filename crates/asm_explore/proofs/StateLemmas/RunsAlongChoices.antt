@@ -4,7 +4,7 @@
 --                     comes to it, and stays within before
 --     bad_runs        each script that makes the choices of the steps that lead to a bad step has a
 --                     run that goes wrong there
-use Rattle.std.proofs.Common.{◌≡◌, ℕ, zero, suc, ◌+◌, ◌<◌, ◌≤◌, Bool, true, false, cond, List, [], ◌∷◌, length, inl, inr, refl, sym, ap, subst, ◌∙◌, arith}
+use Rattle.std.proofs.Common.{◌≡◌, ℕ, zero, suc, ◌+◌, ◌-◌, ◌<◌, ◌≤◌, Bool, true, false, cond, List, [], ◌∷◌, length, inl, inr, refl, sym, ap, subst, ◌∙◌, arith}
 use Rattle.std.specs.Prelude.{slice_get, Some}
 use Rattle.std.proofs.lemmas.Bool.{cases_lt}
 use Rattle.asm_state.specs.Location.{State}
@@ -23,17 +23,11 @@ use Rattle.asm_explore.specs.declared.outcomes.listed_outcome.Choice.{Choice}
 use Rattle.asm_explore.specs.code.PackedNodes.{Node}
 use Rattle.asm_explore.specs.code.OutcomeLists.{Situation}
 use Rattle.asm_explore.specs.code.ReachedStates.{steps_from, state_at, GoesWrong, LeadTo, MakesAll, GoesWrongSo, IsBad}
-use Rattle.asm_explore.specs.Search.{LeadsOn, IsDeadlock, EndsSo}
+use Rattle.asm_explore.specs.Search.{LeadsOn, IsDeadlock, GoesWrongIn}
 
 record Same (r q : Run) : Type 0 where
   end : r.end ≡ q.end
   last : r.last ≡ q.last
-
-ends_same : (right : State → Bool) (dead : State → Type 0) (f : Fault) (step : ℕ) (r q : Run) → Same r q → EndsSo right dead f step q → EndsSo right dead f step r
-ends_same right dead fault.Exhausted step r q same h = (h.0, same.end ∙ h.1)
-ends_same right dead fault.Inconsistent step r q same h = (h.0, same.end ∙ h.1, h.2)
-ends_same right dead fault.Wrong step r q same h = (same.end ∙ h.0, ap right same.last ∙ h.1)
-ends_same right dead fault.Deadlock step r q same h = (same.end ∙ h.0, subst dead (sym same.last) h.1)
 
 inconsistent : (U : UpdateSet) → ¬ (IsConsistent U) → (b : Bool) → is_consistent U ≡ b → is_consistent U ≡ false
 inconsistent U faulty true is = absurd (faulty ((test_laws.consistency U).0 is))
@@ -96,24 +90,32 @@ module _ (specification : Specification) (turns : ℕ) (right rests : State → 
       ap (λ x. (step_and specification.program turns specification.main x m i A rest).end) is
       ∙ ap (λ b. (cond b (fired U m (rest U)) (ended (AtFault i U) A)).end) (inconsistent U faulty (is_consistent U) refl)
 
-  goes_wrong : (f : Fault) (i : ℕ) (A : State) → GoesWrong right dead f (steps_from specification turns A (step_at i)) A → EndsSo right dead f i (runs 1 i A)
-  goes_wrong fault.Exhausted i A h =
+  -- the run of one step more
+  one_more : (d : ℕ) (A : State) → ComesTo d A → Same (run specification turns script (suc d)) (runs 1 (suc d) A)
+  one_more d A comes =
+      let count : suc d ≡ d + 1 = omega arith in
+      subst (λ n. Same (run specification turns script n) (runs 1 (suc d) A)) (sym count) (comes_on d 1 A comes)
+
+  goes_wrong_in : (f : Fault) (d : ℕ) (A : State) → ComesTo d A → GoesWrong right dead f (steps_from specification turns A (step_at (suc d))) A
+      → GoesWrongIn specification turns right rests script f (suc d)
+  goes_wrong_in fault.Exhausted d A comes h =
+      let i = suc d in
       let o : Outcome = does specification.program turns script i A nothing_bound [] specification.main in
-      (h.0, exhausted_ends o.result h.0 o.instances i A (λ U. runs 0 (suc i) (fire A U)) h.1)
-  goes_wrong fault.Inconsistent i A h =
+      (h.0, (one_more d A comes).end ∙ exhausted_ends o.result h.0 o.instances i A (λ U. runs 0 (suc i) (fire A U)) h.1)
+  goes_wrong_in fault.Inconsistent d A comes h =
+      let i = suc d in
       let o : Outcome = does specification.program turns script i A nothing_bound [] specification.main in
-      (h.0, fault_ends o.result h.0 o.instances i A (λ U. runs 0 (suc i) (fire A U)) h.1 h.2, h.2)
-  goes_wrong fault.Wrong i A leads =
+      (h.0, (one_more d A comes).end ∙ fault_ends o.result h.0 o.instances i A (λ U. runs 0 (suc i) (fire A U)) h.1 h.2, h.2)
+  goes_wrong_in fault.Wrong d A comes leads =
+      let i = suc d in
       let o : Outcome = does specification.program turns script i A nothing_bound [] specification.main in
       let same : Same (runs 1 i A) (ended AtLimit (fire A leads.set)) =
       step_same o.result o.instances i A leads.set (λ U. runs 0 (suc i) (fire A U)) (ended AtLimit (fire A leads.set)) leads.gives leads.consistent (record { end = refl; last = refl }) in
-      (same.end, ap right same.last ∙ leads.leads)
-  goes_wrong fault.Deadlock i A h =
-      let o : Outcome = does specification.program turns script i A nothing_bound [] specification.main in
-      let leads = h.0 script i in
-      let same : Same (runs 1 i A) (ended AtLimit (fire A leads.set)) =
-      step_same o.result o.instances i A leads.set (λ U. runs 0 (suc i) (fire A U)) (ended AtLimit (fire A leads.set)) leads.gives leads.consistent (record { end = refl; last = refl }) in
-      (same.end, subst dead (sym (same.last ∙ leads.leads)) h)
+      ((one_more d A comes).end ∙ same.end, ap right ((one_more d A comes).last ∙ same.last) ∙ leads.leads)
+  goes_wrong_in fault.Deadlock d A comes h =
+      let count : suc d - 1 ≡ d + 0 = omega arith in
+      let here = comes_on d 0 A comes in
+      (ap (λ n. (run specification turns script n).end) count ∙ here.end, subst dead (sym (ap (λ n. (run specification turns script n).last) count ∙ here.last)) h)
 
   -- along the choices that lead to a state
   module _ (within : State → Bool) where
@@ -172,14 +174,10 @@ bad_runs specification turns right rests within shape nodes bad is inside = reco
   there = is.there;
   apart = is.apart;
   wrong = λ back leads script makes.
-      let d = length back in
       let A = state_at shape is.from in
       let comes = trail_comes specification turns right rests script within back A leads makes.1 in
-      let same = comes_on specification turns right rests script d 1 A comes in
-      let count : suc d ≡ d + 1 = omega arith in
-      let here = goes_wrong specification turns right rests script bad.fault (suc d) A (is.wrong (record { script = script; step = suc d }) makes.0) in (
-        subst (λ k. EndsSo right (IsDeadlock specification turns rests) bad.fault (suc d) (run specification turns script k)) (sym count)
-            (ends_same right (IsDeadlock specification turns rests) bad.fault (suc d) (run specification turns script (d + 1)) (run_from specification.program turns specification.main script 1 (suc d) A) same here),
+      let goes = is.wrong (record { script = script; step = suc (length back) }) makes.0 in (
+        goes_wrong_in specification turns right rests script bad.fault (length back) A comes goes,
         λ k less. trail_stays specification turns right rests script within back A leads makes.1 (inside is.from is.there) k (omega (arith, less)),
       );
 }

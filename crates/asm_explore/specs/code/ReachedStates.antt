@@ -29,7 +29,7 @@ use Rattle.asm_state.specs.Updates.{UpdateSet, IsConsistent}
 use Rattle.asm_reader.specs.ScriptLines.{Script}
 use Rattle.asm_meaning.specs.Does.{does}
 use Rattle.asm_meaning.specs.Program.{nothing_bound}
-use Rattle.asm_meaning.specs.Run.{Specification, run}
+use Rattle.asm_meaning.specs.Run.{Specification}
 use Rattle.asm_meaning.specs.Yields.{Path, Result, Gives, Exhausted}
 use Rattle.asm_explore.specs.declared.search_result.BadStep.{BadStep}
 use Rattle.asm_explore.specs.declared.search_result.SearchEnd.TheVariants as ended
@@ -43,7 +43,7 @@ use Rattle.asm_explore.specs.declared.outcomes.outcomes_error.RuleOverLimit.{Rul
 use Rattle.asm_explore.specs.code.PackedNodes.{Node}
 use Rattle.asm_explore.specs.code.OutcomeLists.{Situation, Each, AnyOf, AreTaken, Shown, IsSound}
 use Rattle.asm_explore.specs.code.ChoicePaths.{HaveOwnPaths}
-use Rattle.asm_explore.specs.Search.{LeadsOn, IsDeadlock, EndsSo, StaysWithin}
+use Rattle.asm_explore.specs.Search.{LeadsOn, IsDeadlock, GoesWrongIn, StaysWithin}
 
 abbrev pub steps_from : Specification → (turns : ℕ) → State → Situation → Result
 steps_from specification turns A s = (does specification.program turns s.script s.step A nothing_bound [] specification.main).result
@@ -87,7 +87,7 @@ pub record GoesWrongSo (specification : Specification) (turns : ℕ) (right rest
   pub there : slice_get nodes bad.from ≡ Some from
   pub apart : HaveOwnPaths bad.choices.items
   pub wrong : (back : List (List Choice)) → LeadTo specification turns within (state_of shape from.state) back → (script : Script) → MakesAll script (bad.choices.items ∷ back)
-      → EndsSo right (IsDeadlock specification turns rests) bad.fault (suc (length back)) (run specification turns script (suc (length back))) × StaysWithin specification turns within script (suc (length back))
+      → GoesWrongIn specification turns right rests script bad.fault (suc (length back)) × StaysWithin specification turns within script (suc (length back))
 
 module _ (shape : Shape) where
   abbrev pub state_at : Node → State

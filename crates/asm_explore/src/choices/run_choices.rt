@@ -64,7 +64,7 @@ fn next_state(
 
 /// Adds what is asked in the step from a state, and returns the state that the step leads to,
 /// unless the run ends in it.
-fn make_step<P: Picks>(
+pub(crate) fn make_step<P: Picks>(
     alloc: Global,
     checked: &Checked,
     code: &RuleCode,

@@ -1,73 +1,76 @@
-use Rattle.std.proofs.Common.{◌-◌, ◌≡◌, ◌≤◌, ℕ, suc, ◌+◌, ◌∷◌, map, length, sym, ap, subst, ◌∙◌, arith, Vec, Global}
-use Rattle.std.specs.Prelude.{slice_get, Some, IfErr}
+use Rattle.std.proofs.Common.{◌-◌, ◌≡◌, ◌≤◌, ℕ, suc, ◌+◌, ◌∷◌, map, length, sym, ap, subst, ◌∙◌, arith, None, Option, Some, String, Vec, Global}
+use Rattle.std.specs.Prelude.{slice_get, IfNone, IfSome}
 use Rattle.std.specs.String.{string_bytes}
 use Rattle.std.proofs.lemmas.List.{length-map}
 use Rattle.asm_reader.specs.code.ExactLines.{exactly}
-use Rattle.asm_reader.specs.ScriptText.{IsScript}
-use Rattle.asm_meaning.specs.Run.{run}
 use Rattle.asm_explore.specs.declared.outcomes.listed_outcome.Choice.{Choice}
-use Rattle.asm_explore.specs.code.OutcomeLists.{Each}
-use Rattle.asm_explore.specs.code.ChoicePaths.{HaveOwnPaths}
 use Rattle.asm_explore.specs.declared.outcomes.outcomes_error.RuleOverLimit.{RuleOverLimit}
+use Rattle.asm_explore.specs.ChosenLines.{AreTooLong, IsChosenText, chosen_lines}
 use Rattle.asm_explore.specs.ExplorationResults.{IsSafeIf, beyond, known_to}
 use Rattle.asm_explore.specs.StateLists.{IsAmongFirst}
 use Rattle.asm_explore.specs.code.Deadlocks.{before}
 use Rattle.asm_explore.specs.code.SearchEnds.{HaltsSo}
 use Rattle.asm_explore.specs.code.PackedNodes.{Node}
-use Rattle.asm_explore.specs.code.ReachedStates.{AtNode, state_at}
+use Rattle.asm_explore.specs.code.ReachedStates.{AtNode, MakesAll, state_at}
 use Rattle.asm_explore.specs.code.StepOutcomes.{IsOverLimitOf}
-use Rattle.asm_explore.specs.code.ScriptTo.{lines_of, needed}
-use Rattle.asm_explore.specs.Search.{EndsSo, HoldsBefore, IsDeadlock, StaysWithin}
-use Rattle.asm_explore.specs.code.WrittenScripts.{IsTextOf, IsTextRefusal, lines_text, numbers_in}
+use Rattle.asm_explore.specs.code.ScriptTo.{lines_of}
+use Rattle.asm_explore.specs.Search.{GoesWrongIn, HoldsBefore, StaysWithin, steps_to}
 use Rattle.asm_explore.proofs.StateLemmas.LastStates.{beyond_before, limited_to, safe_before}
 use Rattle.asm_explore.proofs.StateLemmas.LookedStates.{holds_less, known_before}
 use Rattle.asm_explore.proofs.StateLemmas.RunsToNodes.{node_reached}
-use Rattle.asm_explore.proofs.ScriptLemmas.ScriptToState.{needed_make}
-use Rattle.asm_explore.proofs.OutcomeLemmas.LeadingOutcomes.{leads_apart, long_text}
+use Rattle.asm_explore.proofs.StateLemmas.SameRuns.{stays_alike, wrong_alike}
+use Rattle.asm_explore.proofs.ScriptLemmas.ScriptToState.{lines_make}
+use Rattle.asm_explore.proofs.OutcomeLemmas.LeadingOutcomes.{leads_apart}
 use Rattle.asm_explore.proofs.explore_machine.bad_run.Goals as goal
 
-pub script_to-requires : goal.script_to-requires
-script_to-requires g c =
-    let a = c.args in
-    let specification = g.M.Machine.specification a.machine.now in
-    let turns = g.M.Machine.turns a.machine.now in
-    let within = g.M.Machine.within a.machine.now in
-    let wrong = c.requires.wrong in
-    let n = wrong.from in
-    let trail = map (λ (cs : Vec Choice Global). cs.items) c.in-Ok.trail.items in
-    let leads = c.in-Ok.ensures.leads n wrong.there in
-    let apart : Each HaveOwnPaths (a.bad.choices.items ∷ trail) = (wrong.apart, leads_apart specification turns within trail (state_at (g.M.Machine.shape a.machine.now) n) leads) in
-    let back : map (λ (cs : Vec Choice Global). cs.items) c.as_slice.result.now ≡ a.bad.choices.items ∷ trail =
-    ap (map (λ (cs : Vec Choice Global). cs.items)) (c.as_slice.ensures.value ∙ c.in_ok-back.ensures) in
-    subst (Each HaveOwnPaths) (sym back) apart
+some : {X : Type 0} (o : Option X) (x : X) (P : X → Type 0) → o ≡ Some x → IfSome o P → P x
+some o x P is h = subst (λ it. IfSome it P) is h
 
-pub returns-in-Ok-script_to-clause-claims : goal.returns-in-Ok-script_to-clause-claims
-returns-in-Ok-script_to-clause-claims g c = λ limit states.
+nothing : {X : Type 0} (o : Option X) (P : Type 0) → o ≡ None → IfNone o P → P
+nothing o P is h = subst (λ it. IfNone it P) is h
+
+pub steps_to-requires : goal.steps_to-requires
+steps_to-requires g c other =
+    let n = c.requires.wrong.from in
+    omega (arith, (c.requires.deep n c.requires.wrong.there).0, (c.requires.deep n c.requires.wrong.there).1 other)
+
+pub returns-in-Some-clause-claims : goal.returns-in-Some-clause-claims
+returns-in-Some-clause-claims g c = λ limit states.
     let a = c.args in
     let specification = g.M.Machine.specification a.machine.now in
     let turns = g.M.Machine.turns a.machine.now in
+    let right = g.M.Machine.right a.machine.now in
+    let rests = g.M.Machine.rests a.machine.now in
     let within = g.M.Machine.within a.machine.now in
-    let wrong = c.requires.wrong in
-    let n = wrong.from in
+    let fault = a.bad.fault in
+    let step = c.from.result + 1 in
+    let n = c.requires.wrong.from in
     let trail = map (λ (cs : Vec Choice Global). cs.items) c.in-Ok.trail.items in
-    let leads = c.in-Ok.ensures.leads n wrong.there in
-    let apart : Each HaveOwnPaths (a.bad.choices.items ∷ trail) = (wrong.apart, leads_apart specification turns within trail (state_at (g.M.Machine.shape a.machine.now) n) leads) in
-    let back : map (λ (cs : Vec Choice Global). cs.items) c.as_slice.result.now ≡ a.bad.choices.items ∷ trail =
-    ap (map (λ (cs : Vec Choice Global). cs.items)) (c.as_slice.ensures.value ∙ c.in_ok-back.ensures) in
-    let lines = needed (lines_of (a.bad.choices.items ∷ trail)) in
-    let step : suc (length trail) ≡ c.from.result + 1 =
-    omega (arith, length-map c.in-Ok.trail.items (λ (cs : Vec Choice Global). cs.items), c.in-Ok.ensures.deep n wrong.there, (c.requires.deep n wrong.there).0, c.from.ensures) in
-    let limited = limited_to a.bad.fault (c.from.result + 1) a.steps (omega (arith, c.from.ensures, c.requires.low))
-    (λ other. omega (arith, c.from.ensures, (c.requires.deep n wrong.there).0, (c.requires.deep n wrong.there).1 other)) in
-    let both = wrong.wrong trail leads (exactly lines) (needed_make (a.bad.choices.items ∷ trail) apart) in
-    let stays = subst (StaysWithin specification turns within (exactly lines)) step both.1 in
-    let ends = subst (λ k. EndsSo (g.M.Machine.right a.machine.now) (IsDeadlock specification turns (g.M.Machine.rests a.machine.now)) a.bad.fault k (run specification turns (exactly lines) k)) step both.0 in
+    let leads = c.in-Ok.ensures.leads n c.requires.wrong.there in
+    let back = a.bad.choices.items ∷ trail in
+    let said = map (λ (cs : Vec Choice Global). cs.items) c.as_slice.result.now in
+    let same : said ≡ back = ap (map (λ (cs : Vec Choice Global). cs.items)) (c.as_slice.ensures.value ∙ c.in_ok-back.ensures) in
+    let script = exactly (lines_of said) in
+    let makes : MakesAll script back = subst (λ b. MakesAll (exactly (lines_of b)) back) (sym same)
+    (lines_make back (c.requires.wrong.apart, leads_apart specification turns within trail (state_at (g.M.Machine.shape a.machine.now) n) leads)) in
+    let both = c.requires.wrong.wrong trail leads script makes in
+    let count : suc (length trail) ≡ step =
+    omega (arith, length-map c.in-Ok.trail.items (λ (cs : Vec Choice Global). cs.items), c.in-Ok.ensures.deep n c.requires.wrong.there, (c.requires.deep n c.requires.wrong.there).0, c.from.ensures) in
+    let wrong = subst (GoesWrongIn specification turns right rests script fault) count both.0 in
+    let stays = subst (StaysWithin specification turns within script) count both.1 in
+    let steps : c.steps_to.result ≡ steps_to fault step = c.steps_to.ensures ∙ ap (λ k. steps_to fault (k + 1)) (sym c.from.ensures) in
+    let limited = limited_to fault step a.steps (omega (arith, c.from.ensures, c.requires.low))
+    (λ other. omega (arith, c.from.ensures, (c.requires.deep n c.requires.wrong.there).0, (c.requires.deep n c.requires.wrong.there).1 other)) in
+    let bytes = string_bytes c.in-Some.script in
+    let found = some c.in_ok-script.field-0 c.in-Some.script (λ (text : String Global). IsChosenText specification turns script c.steps_to.result (string_bytes text)) c.in-Some.is c.in_ok-script.ensures.some in
+    let chosen = subst (λ k. IsChosenText specification turns script k bytes) steps found in
     record {
-      lines = lines;
-      text = subst (λ b. IsTextOf (needed (lines_of b)) (string_bytes c.in-Ok-script_to.script)) back c.in-Ok-script_to.ensures.text;
-      spelled = subst (λ b. IsScript (string_bytes c.in-Ok-script_to.script) (exactly (needed (lines_of b)))) back c.in-Ok-script_to.ensures.script;
-      wrong = ends;
-      stays = stays;
+      lines = chosen.lines;
+      text = chosen.is;
+      spelled = chosen.spelled;
+      chosen = chosen.chosen;
+      wrong = wrong_alike specification turns right rests (exactly chosen.lines) script fault step chosen.again wrong;
+      stays = stays_alike specification turns within (exactly chosen.lines) script fault step chosen.again stays;
       earliest = record {
         limited = limited;
         before = a.whole;
@@ -83,30 +86,34 @@ returns-clause-claims g c = λ limit states.
     let a = c.args in
     let specification = g.M.Machine.specification a.machine.now in
     let turns = g.M.Machine.turns a.machine.now in
+    let right = g.M.Machine.right a.machine.now in
+    let rests = g.M.Machine.rests a.machine.now in
     let within = g.M.Machine.within a.machine.now in
-    let wrong = c.requires.wrong in
-    let n = wrong.from in
+    let fault = a.bad.fault in
+    let step = c.from.result + 1 in
+    let n = c.requires.wrong.from in
     let trail = map (λ (cs : Vec Choice Global). cs.items) c.in-Ok.trail.items in
-    let leads = c.in-Ok.ensures.leads n wrong.there in
-    let apart : Each HaveOwnPaths (a.bad.choices.items ∷ trail) = (wrong.apart, leads_apart specification turns within trail (state_at (g.M.Machine.shape a.machine.now) n) leads) in
-    let back : map (λ (cs : Vec Choice Global). cs.items) c.as_slice.result.now ≡ a.bad.choices.items ∷ trail =
-    ap (map (λ (cs : Vec Choice Global). cs.items)) (c.as_slice.ensures.value ∙ c.in_ok-back.ensures) in
-    let lines = needed (lines_of (a.bad.choices.items ∷ trail)) in
-    let step : suc (length trail) ≡ c.from.result + 1 =
-    omega (arith, length-map c.in-Ok.trail.items (λ (cs : Vec Choice Global). cs.items), c.in-Ok.ensures.deep n wrong.there, (c.requires.deep n wrong.there).0, c.from.ensures) in
-    let limited = limited_to a.bad.fault (c.from.result + 1) a.steps (omega (arith, c.from.ensures, c.requires.low))
-    (λ other. omega (arith, c.from.ensures, (c.requires.deep n wrong.there).0, (c.requires.deep n wrong.there).1 other)) in
-    let both = wrong.wrong trail leads (exactly lines) (needed_make (a.bad.choices.items ∷ trail) apart) in
-    let stays = subst (StaysWithin specification turns within (exactly lines)) step both.1 in
-    let ends = subst (λ k. EndsSo (g.M.Machine.right a.machine.now) (IsDeadlock specification turns (g.M.Machine.rests a.machine.now)) a.bad.fault k (run specification turns (exactly lines) k)) step both.0 in
+    let leads = c.in-Ok.ensures.leads n c.requires.wrong.there in
+    let back = a.bad.choices.items ∷ trail in
+    let said = map (λ (cs : Vec Choice Global). cs.items) c.as_slice.result.now in
+    let same : said ≡ back = ap (map (λ (cs : Vec Choice Global). cs.items)) (c.as_slice.ensures.value ∙ c.in_ok-back.ensures) in
+    let script = exactly (lines_of said) in
+    let makes : MakesAll script back = subst (λ b. MakesAll (exactly (lines_of b)) back) (sym same)
+    (lines_make back (c.requires.wrong.apart, leads_apart specification turns within trail (state_at (g.M.Machine.shape a.machine.now) n) leads)) in
+    let both = c.requires.wrong.wrong trail leads script makes in
+    let count : suc (length trail) ≡ step =
+    omega (arith, length-map c.in-Ok.trail.items (λ (cs : Vec Choice Global). cs.items), c.in-Ok.ensures.deep n c.requires.wrong.there, (c.requires.deep n c.requires.wrong.there).0, c.from.ensures) in
+    let wrong = subst (GoesWrongIn specification turns right rests script fault) count both.0 in
+    let stays = subst (StaysWithin specification turns within script) count both.1 in
+    let steps : c.steps_to.result ≡ steps_to fault step = c.steps_to.ensures ∙ ap (λ k. steps_to fault (k + 1)) (sym c.from.ensures) in
+    let limited = limited_to fault step a.steps (omega (arith, c.from.ensures, c.requires.low))
+    (λ other. omega (arith, c.from.ensures, (c.requires.deep n c.requires.wrong.there).0, (c.requires.deep n c.requires.wrong.there).1 other)) in
     record {
-      lines = lines;
-      wrong = ends;
+      script = script;
+      wrong = wrong;
       stays = stays;
-      long = long_text (numbers_in lines) (lines_text lines) c.in-Err-Named.field-0-0
-          (subst (IsTextRefusal (numbers_in lines) (lines_text lines)) c.in-Err-Named.field-0-is
-          (subst (λ r. IfErr r (IsTextRefusal (numbers_in lines) (lines_text lines))) c.in-Err-Named.is
-          (subst (λ b. IfErr c.script_to.result (IsTextRefusal (numbers_in (needed (lines_of b))) (lines_text (needed (lines_of b))))) back c.script_to.ensures.refused)));
+      long = subst (λ k. AreTooLong (chosen_lines specification turns script k)) steps
+          (nothing c.in_ok-script.field-0 (AreTooLong (chosen_lines specification turns script c.steps_to.result)) c.in-None.is c.in_ok-script.ensures.none);
       earliest = record {
         limited = limited;
         before = a.whole;
@@ -141,8 +148,8 @@ returns-in-Err-Outcomes-clause-claims g c = λ limit states.
       ),
     )
 
-pub returns-in-Ok-script_to-clause-through : goal.returns-in-Ok-script_to-clause-through
-returns-in-Ok-script_to-clause-through g c = λ number states holds.
+pub returns-in-Some-clause-through : goal.returns-in-Some-clause-through
+returns-in-Some-clause-through g c = λ number states holds.
     let looked = IsAmongFirst number states in
     holds_less (g.M.Machine.specification c.args.machine.now) (g.M.Machine.turns c.args.machine.now) (g.M.Machine.within c.args.machine.now) looked
     (c.from.result + 1 - 1) c.args.whole (omega (arith, c.from.ensures)) holds

@@ -1,9 +1,9 @@
 use Rattle.std.proofs.Common.{◌≡◌, ◌≤◌, ◌+◌, ◌∙◌, ℕ, suc, [], refl, map, take, length, true, ap, sym, subst, arith, Vec, Global}
-use Rattle.std.specs.Prelude.{Some}
+use Rattle.std.specs.Prelude.{◌<◌, IfSome, None, Option, Some}
 use Rattle.std.proofs.lemmas.List.{length-map}
 use Rattle.asm_state.specs.code.Contents.{IsStateOf}
 use Rattle.asm_state.specs.Signature.{count_of}
-use Rattle.asm_explore.specs.ExplorationResults.{Claims, IsLookedThrough, IsSafeIf, beyond, known_to}
+use Rattle.asm_explore.specs.ExplorationResults.{Claims, IsLookedThrough, IsQuietRun, IsSafeIf, beyond, known_to}
 use Rattle.asm_explore.specs.Search.{IsQuiet}
 use Rattle.asm_explore.specs.StateLists.{Counts, IsAmongFirst}
 use Rattle.asm_explore.specs.code.DifferentStates.{IsFullFinding}
@@ -42,6 +42,10 @@ returns-then-not-is_right g c = record {
   rest = tt;
 }
 
+if_some_both : {X : Type 0} (P Q : X → Type 0) (o : Option X) → IfSome o P → IfSome o Q → IfSome o (λ x. P x × Q x)
+if_some_both P Q None p q = tt
+if_some_both P Q (Some x) p q = (p, q)
+
 pub returns : goal.returns
 returns g c =
     let a = c.args in
@@ -63,6 +67,7 @@ returns g c =
     let known = holds_less specification turns within looked (known_to result.safe) result.whole explored.known explored.through.before in
     let quiet : c.len-2.result ≡ length result.quiet.items =
     omega (arith, c.len-2.ensures, result.quiet.ok.0, c.in_ok-nodes.quiet.ok.0, ap (λ (q : Vec ℕ Global). length q.items) c.in_ok-nodes.quiet-is) in
+    let found : c.len-2.result ≡ length c.as_slice.result.now = quiet ∙ sym (ap length c.as_slice.ensures.value) in
     record {
       reached = states;
       count = length-map nodes (state_at shape) ∙ sym c.len.ensures;
@@ -101,5 +106,6 @@ returns g c =
         | in-TooManyOutcomes w ↦ subst through (sym w.finding-is) known
         | in-Memory w ↦ subst through (sym w.finding-is) known
       ];
-      rest = c.quiet_run-first_quiet.ensures;
+      rest = if_some_both (λ run. 0 < c.len-2.result) (IsQuietRun specification turns within) c.quiet_run-first_quiet.result
+          (subst (λ n. IfSome c.quiet_run-first_quiet.result (λ run. 0 < n)) (sym found) c.quiet_run-first_quiet.ensures.some) c.quiet_run-first_quiet.ensures.run;
     }

@@ -5,9 +5,9 @@ use Rattle.asm_state.specs.code.Contents.{IsStateOf}
 use Rattle.asm_state.specs.Signature.{state_of}
 use Rattle.asm_state.specs.Updates.{is_consistent}
 use Rattle.asm_random.specs.code.Replay.{GoesWrong, IsStep}
-use Rattle.asm_random.specs.code.ResolvedRuns.{IsDead, right_in, shape_in, specification_in}
+use Rattle.asm_random.specs.code.ResolvedRuns.{IsDead, rests_in, right_in, shape_in, specification_in}
 use Rattle.asm_random.specs.declared.position.Position.{Position}
-use Rattle.asm_random.proofs.Endings.{after_more, ends_wrong, stands_still}
+use Rattle.asm_random.proofs.Endings.{after_more, goes_wrong}
 use Rattle.asm_random.proofs.RightRuns.{right_after, right_first}
 use Rattle.asm_random.proofs.bad_end.wrong_under.Goals as goal
 
@@ -58,9 +58,9 @@ returns-in-Err-clause-wrong g c =
     let numbered = subst (λ (k : ℕ). GoesWrong spec m.turns script (right_in m) (IsDead m) (k + 1) old c.in-Err.fault) c.from.ensures wrong in
     let tests = c.test_laws.ensures.consistency in
     record {
+      counted = omega arith;
       limited = omega (arith, c.loop-done-test.true);
-      ends = ends_wrong spec m.turns script (right_in m) (IsDead m) done old (λ U good. (tests U).1 good) c.in-Err.fault
+      wrong = goes_wrong spec m.turns script (right_in m) (rests_in m) done old (λ U good. (tests U).1 good) c.in-Err.fault
           (λ U bad. false_from_ne_true (is_consistent U) (λ is. bad ((tests U).0 is))) i.after numbered;
-      still = stands_still spec m.turns script (right_in m) (IsDead m) done old (λ U good. (tests U).1 good) c.in-Err.fault i.after numbered;
       before = i.before;
     }

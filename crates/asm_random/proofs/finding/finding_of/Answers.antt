@@ -1,13 +1,10 @@
-use Rattle.std.proofs.Common.{◌≡◌, ℕ, None, Global, Option, Some, String, string_bytes, subst, sym}
-use Rattle.std.specs.Prelude.{IfNone, IfSome}
-use Rattle.asm_reader.specs.ScriptLines.{Script}
-use Rattle.asm_reader.specs.ScriptText.{IsScript}
+use Rattle.std.proofs.Common.{◌≡◌, ℕ, Global, Option, String, string_bytes, subst, sym}
+use Rattle.std.specs.Prelude.{IfNone, IfSome, None, Some}
 use Rattle.asm_reader.specs.code.ExactLines.{exactly}
-use Rattle.asm_meaning.specs.Run.{run}
+use Rattle.asm_explore.specs.ChosenLines.{AreTooLong, IsChosenText, chosen_lines}
+use Rattle.asm_explore.specs.Search.{steps_to}
 use Rattle.asm_random.specs.BadDrafts.{IsWrongUnder}
-use Rattle.asm_random.specs.ChosenLines.{AreTooLong, chosen_lines}
 use Rattle.asm_random.specs.Drafts.{draft_lines}
-use Rattle.asm_random.specs.RandomResults.{IsBadScript}
 use Rattle.asm_random.specs.code.ResolvedRuns.{rests_in, right_in, specification_in}
 use Rattle.asm_random.proofs.SameRuns.{wrong_alike}
 use Rattle.asm_random.proofs.finding.finding_of.Goals as goal
@@ -18,39 +15,45 @@ some o x P is h = subst (λ it. IfSome it P) is h
 nothing : {X : Type 0} (o : Option X) (P : Type 0) → o ≡ None → IfNone o P → P
 nothing o P is h = subst (λ it. IfNone it P) is h
 
+pub chosen_text-requires : goal.chosen_text-requires
+chosen_text-requires c = c.requires.specified
+
 pub returns-in-Some-clause-claims : goal.returns-in-Some-clause-claims
 returns-in-Some-clause-claims c = λ most wrong.
     let m = c.args.specified.now in
-    some c.in_ok-bad.field-0 c.in-Some.bad (IsBadScript (specification_in m) m.turns most (right_in m) (rests_in m)) c.in-Some.is (c.in_ok-bad.ensures most wrong.limited)
+    let draft = exactly (draft_lines c.args.run.now.draft) in
+    let fault = c.args.run.now.wrong.fault in
+    let step = c.args.run.now.wrong.step in
+    let same : c.steps_to_it.result ≡ steps_to fault step = c.steps_to_it.ensures in
+    let named : c.from-step.result ≡ step = c.from-step.ensures in
+    let given = some c.in_ok-script.field-0 c.in-Some.script (λ (text : String Global). IsChosenText (specification_in m) m.turns draft c.steps_to_it.result (string_bytes text)) c.in-Some.is c.in_ok-script.ensures.some in
+    let found = subst (λ (k : ℕ). IsChosenText (specification_in m) m.turns draft k (string_bytes c.in-Some.script)) same given in
+    record {
+      lines = found.lines;
+      text = found.is;
+      spelled = found.spelled;
+      chosen = subst (λ (k : ℕ). found.lines ≡ chosen_lines (specification_in m) m.turns (exactly found.lines) (steps_to fault k)) (sym named) found.chosen;
+      wrong = subst (λ (k : ℕ). IsWrongUnder (specification_in m) m.turns most (right_in m) (rests_in m) (exactly found.lines) k fault) (sym named)
+          (wrong_alike (specification_in m) m.turns most (right_in m) (rests_in m) (exactly found.lines) draft step fault found.again wrong);
+    }
 
 pub returns-in-Some-clause-counts : goal.returns-in-Some-clause-counts
 returns-in-Some-clause-counts c = λ most asked runs total last. last
-
-pub returns-in-Some-2-clause-claims : goal.returns-in-Some-2-clause-claims
-returns-in-Some-2-clause-claims c = λ most wrong.
-    let m = c.args.specified.now in
-    let draft = exactly (draft_lines c.args.run.now.draft) in
-    let step = c.args.run.now.wrong.step in
-    let found = some c.in_ok-script.field-0 c.in-Some-2.script (λ (text : String Global). (script : Script) × IsScript (string_bytes text) script × (run (specification_in m) m.turns script step ≡ run (specification_in m) m.turns draft step)) c.in-Some-2.is c.in_ok-script.ensures.some in
-    record {
-      script = found.0;
-      spelled = found.1;
-      wrong = subst (λ (k : ℕ). IsWrongUnder (specification_in m) m.turns most (right_in m) (rests_in m) found.0 k c.args.run.now.wrong.fault) (sym c.from-step.ensures)
-          (wrong_alike (specification_in m) m.turns most (right_in m) (rests_in m) found.0 draft step c.args.run.now.wrong.fault found.2 wrong);
-    }
-
-pub returns-in-Some-2-clause-counts : goal.returns-in-Some-2-clause-counts
-returns-in-Some-2-clause-counts c = λ most asked runs total last. last
 
 pub returns-in-None-clause-claims : goal.returns-in-None-clause-claims
 returns-in-None-clause-claims c = λ most wrong.
     let m = c.args.specified.now in
     let draft = exactly (draft_lines c.args.run.now.draft) in
+    let fault = c.args.run.now.wrong.fault in
+    let step = c.args.run.now.wrong.step in
+    let same : c.steps_to_it.result ≡ steps_to fault step = c.steps_to_it.ensures in
+    let named : c.from-step.result ≡ step = c.from-step.ensures in
+    let long = nothing c.in_ok-script.field-0 (AreTooLong (chosen_lines (specification_in m) m.turns draft c.steps_to_it.result)) c.in-None.is c.in_ok-script.ensures.none in
     record {
       script = draft;
-      wrong = subst (λ (k : ℕ). IsWrongUnder (specification_in m) m.turns most (right_in m) (rests_in m) draft k c.args.run.now.wrong.fault) (sym c.from-step.ensures) wrong;
-      long = subst (λ (k : ℕ). AreTooLong (chosen_lines (specification_in m) m.turns draft k)) (sym c.from-step.ensures)
-          (nothing c.in_ok-script.field-0 (AreTooLong (chosen_lines (specification_in m) m.turns draft c.args.run.now.wrong.step)) c.in-None.is c.in_ok-script.ensures.none);
+      wrong = subst (λ (k : ℕ). IsWrongUnder (specification_in m) m.turns most (right_in m) (rests_in m) draft k fault) (sym named) wrong;
+      long = subst (λ (k : ℕ). AreTooLong (chosen_lines (specification_in m) m.turns draft (steps_to fault k))) (sym named)
+          (subst (λ (k : ℕ). AreTooLong (chosen_lines (specification_in m) m.turns draft k)) same long);
     }
 
 pub returns-in-None-clause-counts : goal.returns-in-None-clause-counts
