@@ -1,7 +1,7 @@
 # Completion of the words of asm-explore, for bash: source it, or let ./install put it where bash looks for it.
 # Made by share/man/make --write.
 _asm_explore_all_options=$'--steps\n--turns\n--always\n--always-file\n--deadlock-unless\n--within\n--states\n--outcomes\n--workers\n--dot\n--quiet\n--trace\n--progress\n--help\n--version'
-_asm_explore_random_options=$'--steps\n--turns\n--always\n--always-file\n--runs\n--seed\n--trace\n--progress\n--help\n--version'
+_asm_explore_random_options=$'--steps\n--turns\n--always\n--always-file\n--deadlock-unless\n--outcomes\n--runs\n--seed\n--trace\n--progress\n--help\n--version'
 _asm_explore_choices_options=$'--steps\n--turns\n--script\n--help\n--version'
 _asm_explore_clash_options=$'--steps\n--turns\n--script\n--help\n--version'
 _asm_explore_plain=$'--steps\n--turns\n--always\n--deadlock-unless\n--within\n--states\n--outcomes\n--workers\n--runs\n--seed'

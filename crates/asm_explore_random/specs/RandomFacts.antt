@@ -1,4 +1,6 @@
 -- Definition. The lines behind the first of a report of random runs.
+--     quiet_lines text         the condition for quiet states, if there is one
+--     looked_for_words conditions    which faults are looked for
 --     shown_in finding         the run that is shown
 --     random_counts            what is drawn from, and how many runs and steps were made
 --     run_lines                which run is shown, whether a shorter one may show the same, and how
@@ -8,12 +10,23 @@ use Rattle.std.specs.Prelude.{ℕ, Bool, cond, List, [], ◌∷◌, ◌++◌, le
 use Rattle.asm_random.specs.declared.random_result.RandomResult.{RandomResult}
 use Rattle.asm_random.specs.declared.random_result.RandomFinding.{RandomFinding}
 use Rattle.asm_random.specs.declared.random_result.RandomFinding.TheVariants as random
-use Rattle.asm_explore_texts.specs.Conditions.{texts_of}
-use Rattle.asm_explore_texts.specs.declared.conditions.Condition.{Condition}
+use Rattle.asm_explore_texts.specs.Conditions.{text_of, texts_of}
+use Rattle.asm_explore_texts.specs.declared.conditions.Conditions.{Conditions}
 use Rattle.asm_explore_words.specs.declared.settings.RandomSettings.{RandomSettings}
 use Rattle.asm_explore_report.specs.Commands.{command}
-use Rattle.asm_explore_report.specs.Facts.{always_lines, looked_for}
+use Rattle.asm_explore_report.specs.Facts.{always_lines, condition_line, looked_for}
 use Rattle.asm_explore_report.specs.ShownRuns.{Shown, first_state, shown_bad}
+
+abbrev pub quiet_lines : Option (List ℕ) → List (List ℕ)
+quiet_lines None = []
+quiet_lines (Some text) = condition_line (codes "deadlock unless") text ∷ []
+
+abbrev pub deadlock_words : Option (List ℕ) → List ℕ
+deadlock_words None = []
+deadlock_words (Some text) = codes ", deadlock"
+
+abbrev pub looked_for_words : Conditions → List ℕ
+looked_for_words conditions = looked_for (length conditions.always.items) ++ deadlock_words (text_of conditions.when_quiet)
 
 abbrev pub shown_in : RandomFinding → Option Shown
 shown_in random.Nothing = None
@@ -38,7 +51,8 @@ module _ (turns : ℕ) (name : List ℕ) (shortest : Bool) where
   run_lines random.WrongFirst = run_line 0 ∷ command 0 turns name ∷ []
   run_lines (random.Unwritten unwritten) = []
 
-abbrev pub random_facts : List Condition → RandomSettings → RandomResult → List (List ℕ)
+abbrev pub random_facts : Conditions → RandomSettings → RandomResult → List (List ℕ)
 random_facts conditions settings answer =
-    always_lines (texts_of conditions)
-    ++ (looked_for (length conditions) ∷ (random_counts settings.seed answer ++ run_lines settings.turns settings.spec.now answer.shortest answer.finding))
+    always_lines (texts_of conditions.always.items)
+    ++ (quiet_lines (text_of conditions.when_quiet)
+    ++ (looked_for_words conditions ∷ (random_counts settings.seed answer ++ run_lines settings.turns settings.spec.now answer.shortest answer.finding)))

@@ -1,7 +1,7 @@
 -- Definition. What is asked of random runs, by the bytes of a specification's text and of
 -- conditions, and what is printed of them.
---     IsRandomAsked              the specification of the text, and a question with the term of the
---                                conditions; a run may rest in each state
+--     IsRandomAsked              the specification of the text, and a question with the terms of the
+--                                conditions
 --     random_status finding      1 if a fault is found, and else 0
 --     RandomTells                the words are of the fault that is found, as `WordsTell` says it
 --     random_line                what is found, in a line; these words describe the fault, if there
@@ -10,7 +10,7 @@
 --                                the script is that of the run that is found
 --     IsRandomReported           what is printed says what is found of the specification with this
 --                                text
-use Rattle.std.specs.Prelude.{◌≡◌, ℕ, List, ◌++◌, None, codes, decimal, ⊤}
+use Rattle.std.specs.Prelude.{◌≡◌, ℕ, List, ◌++◌, length, codes, decimal, ⊤}
 use Rattle.asm_state.specs.declared.operation.Op.{Op}
 use Rattle.asm_syntax.specs.code.Views.{spec_of}
 use Rattle.asm_syntax.specs.declared.term.Term.{Term}
@@ -23,24 +23,25 @@ use Rattle.asm_random.specs.declared.random_result.RandomFinding.{RandomFinding}
 use Rattle.asm_random.specs.declared.random_result.RandomFinding.TheVariants as random
 use Rattle.asm_run.specs.Headline.{IsAccepted}
 use Rattle.asm_explore_report.specs.AskedConditions.{AreAllAsked}
-use Rattle.asm_explore_texts.specs.Conditions.{texts_of}
+use Rattle.asm_explore_texts.specs.Conditions.{MayBeConditionOf, text_of, texts_of}
 use Rattle.asm_explore_report.specs.FirstLine.{fault_line, first_state_line}
 use Rattle.asm_explore_report.specs.Printed.{IsPrinted}
 use Rattle.asm_explore_report.specs.FaultWords.{BadTells, IsBroken, unwritten_words}
-use Rattle.asm_explore_texts.specs.declared.conditions.Condition.{Condition}
+use Rattle.asm_explore_texts.specs.declared.conditions.Conditions.{Conditions}
 use Rattle.asm_explore_random.specs.declared.random_asked.CheckedRandomQuestion.{CheckedRandomQuestion}
 use Rattle.asm_explore_report.specs.declared.report.Report.{Report}
 use Rattle.asm_explore_words.specs.declared.settings.RandomSettings.{RandomSettings}
 use Rattle.asm_explore_random.specs.RandomFacts.{random_facts, shown_in}
 
-pub record IsRandomAsked (text : List ℕ) (conditions : List Condition) (settings : RandomSettings) (asked : CheckedRandomQuestion) : Type 0 where
+pub record IsRandomAsked (text : List ℕ) (conditions : Conditions) (settings : RandomSettings) (asked : CheckedRandomQuestion) : Type 0 where
   pub accepted : IsAccepted text (spec_of asked.checked.spec)
-  pub always : AreAllAsked text (texts_of conditions) asked.checked asked.question.always
-  pub when_quiet : asked.question.when_quiet ≡ None
+  pub always : AreAllAsked text (texts_of conditions.always.items) asked.checked asked.question.always
+  pub when_quiet : MayBeConditionOf text (length asked.checked.spec.items.items) (text_of conditions.when_quiet) asked.question.when_quiet
   pub turns : asked.question.turns ≡ settings.turns
   pub steps : asked.question.steps ≡ settings.steps
   pub runs : asked.question.runs ≡ settings.runs
   pub seed : asked.question.seed ≡ settings.seed
+  pub outcomes : asked.question.outcomes ≡ settings.outcomes
 
 -- ---- what is printed
 
@@ -63,7 +64,7 @@ random_line runs steps (random.Bad number bad) words = fault_line bad.fault bad.
 random_line runs steps random.WrongFirst words = first_state_line words
 random_line runs steps (random.Unwritten unwritten) words = fault_line unwritten.fault unwritten.step words
 
-module _ (text : List ℕ) (conditions : List Condition) (settings : RandomSettings) where
+module _ (text : List ℕ) (conditions : Conditions) (settings : RandomSettings) where
   pub record IsRandomReport (asked : CheckedRandomQuestion) (links : List (Op × Term)) (answer : RandomResult) (printed : List ℕ) : Type 0 where
     pub words : List ℕ
     pub tell : RandomTells asked.checked links asked.question.turns answer.finding words
@@ -79,7 +80,7 @@ module _ (text : List ℕ) (conditions : List Condition) (settings : RandomSetti
     pub claims :
         let q = asked.question in
         Claims (specification_of (spec_of asked.checked.spec)) q.turns q.steps (term_holds asked.checked q.always) (term_holds asked.checked q.when_quiet) answer.finding
-    -- and how many runs were made before, which are fine
+    -- how many runs and steps were made, and that those before it have no fault
     pub counts :
         let q = asked.question in
         Counts (specification_of (spec_of asked.checked.spec)) q.turns q.steps (term_holds asked.checked q.always) q.runs answer.runs answer.steps answer.finding

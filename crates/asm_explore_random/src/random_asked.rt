@@ -1,14 +1,15 @@
 //! What is asked of random runs of a specification, from the texts.
-ghost use Rattle.std.specs.Prelude.{◌≡◌, None, IfOk};
+ghost use Rattle.std.specs.Prelude.{◌≡◌, IfOk};
+ghost use Rattle.asm_syntax.specs.code.Views.{spec_of};
+ghost use Rattle.asm_run.specs.Headline.{IsAccepted};
 ghost use Rattle.asm_explore_random.specs.RandomReport.{IsRandomAsked};
 
 use asm_check::Checked;
 use asm_explore_report::checked_text::{all_asked, checked};
-use asm_explore_texts::conditions::Condition;
+use asm_explore_texts::conditions::{Conditions, optional_term};
 use asm_explore_words::fault::Fault;
 use asm_explore_words::settings::RandomSettings;
 use asm_random::RandomQuestion;
-use asm_syntax::term::Term;
 use std::alloc::Global;
 
 /// A specification, and what is looked for in random runs of it.
@@ -18,44 +19,58 @@ pub struct CheckedRandomQuestion {
     pub question: RandomQuestion,
 }
 
-/// What is looked for if this is to hold in each state, by the settings, which have `turns` turns. A
-/// run may rest in each state, so that no outcome is listed.
-fn question_of(always: Option<Term>, turns: u32, settings: &RandomSettings<'_>) -> RandomQuestion
-    ensures always { result.always ≡ always }
-    ensures when_quiet { result.when_quiet ≡ None }
-    ensures turns { result.turns ≡ turns }
-    ensures steps { result.steps ≡ settings.now.steps }
-    ensures runs { result.runs ≡ settings.now.runs }
-    ensures seed { result.seed ≡ settings.now.seed }
-{
-    RandomQuestion {
-        always,
-        when_quiet: None,
-        turns,
-        steps: settings.steps,
-        runs: settings.runs,
-        seed: settings.seed,
-        outcomes: 0,
-    }
-}
-
 /// What the settings ask of the specification with this text, by these conditions.
 pub fn ask_random<'w>(
     alloc: Global,
     text: &[u8],
-    conditions: &[Condition<'w>],
+    conditions: &Conditions<'w>,
     settings: &RandomSettings<'w>,
 ) -> Result<CheckedRandomQuestion, Fault<'w>>
     ensures { IfOk result (IsRandomAsked text.now conditions.now settings.now) }
 {
     let checked = checked(alloc, text, settings.spec)?;
-    match all_asked(alloc, text, &checked, conditions) {
-        Ok(always) => {
-            let question = question_of(always, settings.turns, settings);
-            Ok(CheckedRandomQuestion { checked, question })
-        }
+    match question_of(alloc, text, &checked, conditions, settings) {
+        Ok(question) => Ok(CheckedRandomQuestion { checked, question }),
         Err(fault) => {
             drop(checked);
+            Err(fault)
+        }
+    }
+}
+
+/// This many turns exhaust an `iterate` or a `while`.
+fn turns_of(settings: &RandomSettings<'_>) -> u32
+    ensures { result ≡ settings.now.turns }
+{
+    settings.turns
+}
+
+/// What the settings ask of a specification, which has this text, by these conditions.
+fn question_of<'w>(
+    alloc: Global,
+    text: &[u8],
+    checked: &Checked,
+    conditions: &Conditions<'w>,
+    settings: &RandomSettings<'w>,
+) -> Result<RandomQuestion, Fault<'w>>
+    requires accepted { IsAccepted text.now (spec_of checked.now.spec) }
+    ensures { IfOk result (λ question. IsRandomAsked text.now conditions.now settings.now (record { checked = checked.now; question = question })) }
+{
+    let turns = turns_of(settings);
+    let items = checked.spec.items.len();
+    let always = all_asked(alloc, text, checked, conditions.always.as_slice())?;
+    match optional_term(alloc, text, items, &conditions.when_quiet) {
+        Ok(when_quiet) => Ok(RandomQuestion {
+            always,
+            when_quiet,
+            turns,
+            steps: settings.steps,
+            runs: settings.runs,
+            seed: settings.seed,
+            outcomes: settings.outcomes as usize,
+        }),
+        Err(fault) => {
+            drop(always);
             Err(fault)
         }
     }

@@ -14,7 +14,7 @@ use asm_explore_report::fault_words::{Subject, UNWRITTEN, bad_words, first_words
 use asm_explore_report::first_line::{of_fault, of_first};
 use asm_explore_report::printed::printed;
 use asm_explore_report::report::Report;
-use asm_explore_texts::conditions::Condition;
+use asm_explore_texts::conditions::Conditions;
 use asm_explore_words::fault::Fault;
 use asm_explore_words::settings::RandomSettings;
 use asm_random::{RandomFinding, RandomProgress, RandomResult, random_runs};
@@ -79,7 +79,7 @@ fn printed_of<'w, R: Threads + Sync>(
     alloc: Global,
     text: &[u8],
     asked: &CheckedRandomQuestion,
-    conditions: &[Condition<'w>],
+    conditions: &Conditions<'w>,
     settings: &RandomSettings<'w>,
     answer: &RandomResult,
 ) -> Result<Vec<u8>, Fault<'w>>
@@ -116,7 +116,7 @@ fn reported<'w, R: Threads + Sync, W: Watch<RandomProgress>>(
     alloc: Global,
     text: &[u8],
     asked: &CheckedRandomQuestion,
-    conditions: &[Condition<'w>],
+    conditions: &Conditions<'w>,
     settings: &RandomSettings<'w>,
     watch: &mut W,
 ) -> Result<Report, Fault<'w>>
@@ -134,7 +134,7 @@ pub fn random_report<'w, R: Threads + Sync, W: Watch<RandomProgress>>(
     rt: &R,
     alloc: Global,
     text: &[u8],
-    conditions: &[Condition<'w>],
+    conditions: &Conditions<'w>,
     settings: &RandomSettings<'w>,
     watch: &mut W,
 ) -> Result<Report, Fault<'w>>

@@ -14,12 +14,15 @@
 --                                              files with these names
 --     AreGiven contents settings conditions    the conditions are those that the settings give, and
 --                                              those of the files that they name
+--     AreRandomGiven contents settings conditions
+--                                              the same of the settings of `random`
 use Rattle.std.specs.Prelude.{◌≡◌, ℕ, List, [], ◌∷◌, ◌++◌, Option, Some, None, cond, option_map, codes, ⊤}
 use Rattle.std.specs.Str.{bytes_eq}
 use Rattle.clap.specs.Walk.{Text, texts}
 use Rattle.asm_files.specs.Input.{IsFront, bytes_of}
 use Rattle.asm_explore_texts.specs.Conditions.{text_of, texts_of}
 use Rattle.asm_explore_texts.specs.declared.conditions.Conditions.{Conditions}
+use Rattle.asm_explore_words.specs.declared.settings.RandomSettings.{RandomSettings}
 use Rattle.asm_explore_words.specs.declared.settings.RunSettings.{RunSettings}
 use Rattle.asm_explore_words.specs.declared.settings.Settings.{Settings}
 
@@ -60,3 +63,8 @@ module _ (contents : Text → Option (List ℕ)) where
     pub always : AreAlwaysGiven (texts settings.always.items) (texts settings.always_files.items) (texts_of conditions.always.items)
     pub when_quiet : text_of conditions.when_quiet ≡ option_map (λ text. text.now) settings.when_quiet
     pub within : text_of conditions.within ≡ option_map (λ text. text.now) settings.within
+
+  pub record AreRandomGiven (settings : RandomSettings) (conditions : Conditions) : Type 0 where
+    pub always : AreAlwaysGiven (texts settings.always.items) (texts settings.always_files.items) (texts_of conditions.always.items)
+    pub when_quiet : text_of conditions.when_quiet ≡ option_map (λ text. text.now) settings.when_quiet
+    pub within : conditions.within ≡ None

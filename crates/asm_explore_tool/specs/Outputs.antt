@@ -20,10 +20,9 @@ use Rattle.std.specs.Prelude.{◌≡◌, ◌⊎◌, ℕ, Bool, List, [], Option,
 use Rattle.std.specs.Io.KnownBytes.{Appends, Keeps}
 use Rattle.clap.specs.Kinds.{IsAmong, Kinds}
 use Rattle.clap.specs.Values.{kind_of}
-use Rattle.clap.specs.Walk.{Text, texts}
-use Rattle.asm_explore_texts.specs.Conditions.{texts_of}
+use Rattle.clap.specs.Walk.{Text}
 use Rattle.asm_explore_tool.specs.Faults.{status_of}
-use Rattle.asm_explore_tool.specs.GivenTexts.{AreAlwaysGiven, AreGiven, AreRunTexts, IsText}
+use Rattle.asm_explore_tool.specs.GivenTexts.{AreGiven, AreRandomGiven, AreRunTexts, IsText}
 use Rattle.asm_explore_tool.specs.declared.no_answer.NoAnswer.{NoAnswer}
 use Rattle.asm_explore_tool.specs.declared.no_answer.NoAnswer.TheVariants as no_answer
 use Rattle.asm_explore_random.specs.RandomReport.{IsRandomReported}
@@ -31,7 +30,6 @@ use Rattle.asm_explore_all.specs.AllReport.{IsReportedBy}
 use Rattle.asm_explore_all.specs.MadeFiles.{MadeFile, Makes}
 use Rattle.asm_explore_run.specs.RunReport.{AreChoicesReported, IsClashReported}
 use Rattle.asm_explore_words.specs.WordsSaid.{AreSaidBehind, AskForHelp, task_refusals}
-use Rattle.asm_explore_texts.specs.declared.conditions.Condition.{Condition}
 use Rattle.asm_explore_texts.specs.declared.conditions.Conditions.{Conditions}
 use Rattle.asm_explore_report.specs.declared.report.Report.{Report}
 use Rattle.asm_explore_words.specs.declared.settings.RandomSettings.{RandomSettings}
@@ -56,8 +54,8 @@ module _ (contents : Text → Option (List ℕ)) (input : Option (List ℕ)) whe
   pub record IsReportOfRandom (settings : RandomSettings) (report : Report) : Type 0 where
     pub text : List ℕ
     pub is_text : IsText contents input settings.spec.now text
-    pub conditions : List Condition
-    pub given : AreAlwaysGiven contents (texts settings.always.items) (texts settings.always_files.items) (texts_of conditions)
+    pub conditions : Conditions
+    pub given : AreRandomGiven contents settings conditions
     pub reported : IsRandomReported text conditions settings report
 
   pub record IsReportOfRun (AreReported : (text script_text : List ℕ) → RunSettings → Report → Type 0) (settings : RunSettings) (report : Report) : Type 0 where

@@ -4,12 +4,12 @@ ghost use Rattle.clap.specs.Walk.{texts};
 ghost use Rattle.asm_explore_texts.specs.Conditions.{text_of, texts_of};
 ghost use Rattle.asm_files.specs.Input.{IsFront};
 ghost use Rattle.asm_explore_tool.specs.Faults.{IsOfReport};
-ghost use Rattle.asm_explore_tool.specs.GivenTexts.{AreAlwaysGiven, AreFronts, AreGiven, IsText, max_bytes_read};
+ghost use Rattle.asm_explore_tool.specs.GivenTexts.{AreAlwaysGiven, AreFronts, AreGiven, AreRandomGiven, IsText, max_bytes_read};
 
 use crate::no_answer::NoAnswer;
 use asm_explore_texts::conditions::{Condition, Conditions};
 use asm_explore_words::fault::Source;
-use asm_explore_words::settings::Settings;
+use asm_explore_words::settings::{RandomSettings, Settings};
 use asm_files::folder::Folder;
 use asm_files::input;
 use std::alloc::{AllocError, Global};
@@ -137,5 +137,24 @@ pub(crate) fn conditions<'w, F: Folder>(
         always,
         when_quiet,
         within,
+    })
+}
+
+/// The conditions that the settings of `random` give.
+pub(crate) fn random_conditions<'w, F: Folder>(
+    folder: &F,
+    alloc: Global,
+    settings: &RandomSettings<'w>,
+) -> Result<Conditions<'w>, NoAnswer<'w>>
+    ensures given { IfOk result (AreRandomGiven (F.contents folder.now) settings.now) }
+    ensures none { IfErr result IsOfReport }
+{
+    let names = settings.always_files.as_slice();
+    let always = always_given(folder, alloc, settings.always.as_slice(), names)?;
+    let when_quiet = maybe_given(alloc, Source::DeadlockUnless, settings.when_quiet)?;
+    Ok(Conditions {
+        always,
+        when_quiet,
+        within: None,
     })
 }

@@ -5,7 +5,7 @@ ghost use Rattle.asm_explore_tool.specs.Outputs.{IsReportOf, IsReportOfAll, IsRe
 ghost use Rattle.asm_explore_run.specs.RunReport.{AreChoicesReported, IsClashReported};
 ghost use Rattle.asm_explore_words.specs.WordsSaid.{reads_input_twice, reads_task_twice};
 
-use crate::given_texts::{always_given, conditions, text};
+use crate::given_texts::{conditions, random_conditions, text};
 use crate::no_answer::NoAnswer;
 use crate::progress_lines::ProgressLines;
 use crate::run_texts::run_texts;
@@ -122,10 +122,9 @@ fn report_of_random<'w, R: Threads + Sync, F: Folder, I: Read + Drop, W: Watch<R
     ensures none { IfErr result IsOfReport }
 {
     let spec = settings.spec;
-    let (words, names) = (settings.always.as_slice(), settings.always_files.as_slice());
     let text = text(folder, alloc, Source::Specification(spec), spec, input)?;
-    let conditions = always_given(folder, alloc, words, names)?;
-    let (text, conditions) = (text.as_slice(), conditions.as_slice());
-    let report = random_report(rt, alloc, text, conditions, settings, watch)?;
+    let conditions = random_conditions(folder, alloc, settings)?;
+    let text = text.as_slice();
+    let report = random_report(rt, alloc, text, &conditions, settings, watch)?;
     Ok(report)
 }

@@ -41,6 +41,6 @@ module _ (c : Command) (m : ArgMatches) (p : IsParsedFrom c m) (is : app_of c �
 
   pub seed : HasUnsigned (found_of m) (codes "seed")
   unfolding random_command
-  seed = has_unsigned c m p random_command is unrelated 6 (codes "seed") no_rule refl
+  seed = has_unsigned c m p random_command is unrelated 8 (codes "seed") no_rule refl
       (record { id = refl; set = refl; parser = refl; range = refl; stands = inr (omega arith) }) (apart (codes "seed") [] (λ e. omega arith)) (apart (codes "seed") (codes "help") (λ e. omega arith))
       (apart (codes "seed") (codes "version") (λ e. omega arith))

@@ -19,6 +19,10 @@ random_is_taken : task_refusals (codes "random" ∷ codes "--seed=7" ∷ one) �
 unfolding random_command clap_on_literals
 random_is_taken = refl
 
+deadlocks_are_taken : task_refusals (codes "random" ∷ codes "--deadlock-unless=true" ∷ codes "--outcomes" ∷ codes "9" ∷ one) ≡ []
+unfolding random_command clap_on_literals
+deadlocks_are_taken = refl
+
 choices_are_taken : task_refusals (codes "choices" ∷ codes "-" ∷ codes "--script" ∷ codes "s" ∷ []) ≡ []
 unfolding run_command clap_on_literals
 choices_are_taken = refl
@@ -26,6 +30,10 @@ choices_are_taken = refl
 two_files_are_taken : task_refusals (codes "all" ∷ codes "--dot" ∷ codes "g" ∷ codes "--quiet" ∷ codes "s" ∷ one) ≡ []
 unfolding command clap_on_literals
 two_files_are_taken = refl
+
+input_is_no_file : task_refusals (codes "all" ∷ codes "--dot" ∷ codes "-" ∷ codes "-" ∷ []) ≡ []
+unfolding command clap_on_literals
+input_is_no_file = refl
 
 -- ---- what is refused
 
@@ -56,6 +64,14 @@ both_are_input = refl
 both_are_one_file : task_refusals (codes "all" ∷ codes "--dot" ∷ codes "f" ∷ codes "--quiet" ∷ codes "f" ∷ one) ≡ ArgumentConflict ∷ []
 unfolding command clap_on_literals
 both_are_one_file = refl
+
+graph_over_text : task_refusals (codes "all" ∷ codes "--dot" ∷ codes "x.asm" ∷ one) ≡ ArgumentConflict ∷ []
+unfolding command clap_on_literals
+graph_over_text = refl
+
+script_over_text : task_refusals (codes "all" ∷ codes "--quiet" ∷ codes "x.asm" ∷ one) ≡ ArgumentConflict ∷ []
+unfolding command clap_on_literals
+script_over_text = refl
 
 -- ---- what is asked for
 

@@ -90,6 +90,8 @@ random_command = record {
         ∷ number turns_option
         ∷ repeated (option (codes "always"))
         ∷ repeated (option (codes "always-file"))
+        ∷ option (codes "deadlock-unless")
+        ∷ number outcomes_option
         ∷ number runs_option
         ∷ or_else (codes "0") (unsigned (codes "seed"))
         ∷ flag (codes "trace")

@@ -1,6 +1,7 @@
 -- Definition. What words say.
 --     AreSaid words settings        the settings are those that the words after `all` give: the graph
---                                   and the script aren't both written to one file
+--                                   and the script aren't both written to one file, nor one of them
+--                                   to that of the text
 --     AreRandomSaid words settings  the same after `random`
 --     AreRunSaid words settings     the same after `choices` and `clash`: the text and the script
 --                                   aren't both standard input
@@ -13,7 +14,7 @@
 --     AskForHelp kinds              words of these kinds ask for help or for the version
 --     IsRefusal kinds fault         words are refused by a fault of one of these kinds, or memory
 --                                   ran out
-use Rattle.std.specs.Prelude.{◌≡◌, ◌⊎◌, ℕ, Bool, true, false, ◌&&◌, ◌||◌, List, [], ◌∷◌, Option, Some, None, cond, option_map, codes, is_some, ⊤}
+use Rattle.std.specs.Prelude.{◌≡◌, ◌⊎◌, ℕ, Bool, true, false, not, ◌&&◌, ◌||◌, List, [], ◌∷◌, Option, Some, None, cond, option_map, codes, is_some, ⊤}
 use Rattle.std.specs.Option.{option_map_or}
 use Rattle.std.specs.Prelude.{find}
 use Rattle.std.specs.Str.{bytes_eq}
@@ -48,7 +49,7 @@ numbers_of s =
 
 -- and a seed, which is any number of 64 bits
 abbrev pub random_numbers_of : RandomSettings → List (NumberOption × ℕ)
-random_numbers_of s = (steps_or_else (codes "1000"), s.steps) ∷ (turns_option, s.turns) ∷ (runs_option, s.runs) ∷ []
+random_numbers_of s = (steps_or_else (codes "1000"), s.steps) ∷ (turns_option, s.turns) ∷ (outcomes_option, s.outcomes) ∷ (runs_option, s.runs) ∷ []
 
 abbrev pub run_numbers_of : RunSettings → List (NumberOption × ℕ)
 run_numbers_of s = (steps_or_else (codes "1000"), s.steps) ∷ (turns_option, s.turns) ∷ []
@@ -57,7 +58,7 @@ abbrev pub number_options : List NumberOption
 number_options = steps_or_else (codes "1000000") ∷ turns_option ∷ states_option ∷ outcomes_option ∷ workers_option ∷ []
 
 abbrev pub random_number_options : List NumberOption
-random_number_options = steps_or_else (codes "1000") ∷ turns_option ∷ runs_option ∷ []
+random_number_options = steps_or_else (codes "1000") ∷ turns_option ∷ outcomes_option ∷ runs_option ∷ []
 
 abbrev pub run_number_options : List NumberOption
 run_number_options = steps_or_else (codes "1000") ∷ turns_option ∷ []
@@ -140,15 +141,30 @@ pub record AreRead (rows : List Row) (settings : Settings) : Type 0 where
   pub trace : settings.trace ≡ is_yes (first_of (codes "trace") rows)
   pub progress : settings.progress ≡ is_yes (first_of (codes "progress") rows)
 
+-- the file with this name is standard input
+abbrev pub is_input : Option Text → Bool
+is_input None = false
+is_input (Some name) = bytes_eq name (codes "-")
+
 -- both name the same file
 abbrev pub is_one_file : (name other : Option Text) → Bool
 is_one_file None other = false
 is_one_file (Some name) None = false
 is_one_file (Some name) (Some other) = bytes_eq name other
 
--- the words name one file for the graph and for the script
+-- the graph or the script would be written to the file that the text is read from
+abbrev pub is_over_text : (spec dot quiet : Option Text) → Bool
+is_over_text spec dot quiet = not (is_input spec) && (is_one_file spec dot || is_one_file spec quiet)
+
+-- two of the text, the graph and the script would be in one file
+abbrev pub are_two_in_one : (spec dot quiet : Option Text) → Bool
+are_two_in_one spec dot quiet = is_one_file dot quiet || is_over_text spec dot quiet
+
+-- the words name one file for two of them
 abbrev pub are_one_file : List Text → Bool
-are_one_file words = is_one_file (first_of (codes "dot") (all_rows words)) (first_of (codes "quiet") (all_rows words))
+are_one_file words =
+    let rows = all_rows words in
+    are_two_in_one (first_of (codes "spec") rows) (first_of (codes "dot") rows) (first_of (codes "quiet") rows)
 
 abbrev pub AreTaken : List Text → Type 0
 AreTaken words = (refusals words ≡ []) × (are_one_file words ≡ false)
@@ -161,6 +177,7 @@ pub record AreRandomRead (rows : List Row) (settings : RandomSettings) : Type 0 
   pub numbers : AreNumbers rows (random_numbers_of settings)
   pub always : texts settings.always.items ≡ all_of (codes "always") rows
   pub always_files : texts settings.always_files.items ≡ all_of (codes "always-file") rows
+  pub when_quiet : option_map (λ text. text.now) settings.when_quiet ≡ first_of (codes "deadlock-unless") rows
   pub seed : IsUnsigned rows (codes "seed") settings.seed
   pub trace : settings.trace ≡ is_yes (first_of (codes "trace") rows)
   pub progress : settings.progress ≡ is_yes (first_of (codes "progress") rows)
@@ -172,11 +189,6 @@ pub record AreRunRead (rows : List Row) (settings : RunSettings) : Type 0 where
   pub spec : first_of (codes "spec") rows ≡ Some settings.spec.now
   pub numbers : AreNumbers rows (run_numbers_of settings)
   pub script : option_map (λ text. text.now) settings.script ≡ first_of (codes "script") rows
-
--- the file with this name is standard input
-abbrev pub is_input : Option Text → Bool
-is_input None = false
-is_input (Some name) = bytes_eq name (codes "-")
 
 -- the text and the script are both on standard input
 abbrev pub reads_input_twice : RunSettings → Bool

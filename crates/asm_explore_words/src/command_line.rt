@@ -15,7 +15,7 @@ use crate::commands::{Argument, described, with_arguments};
 use crate::help;
 use crate::number_options::{OUTCOMES, RUN_STEPS, STATES, STEPS, TURNS, WORKERS};
 use crate::random_words::{random, random_settings};
-use crate::settings::{RunSettings, Settings, Task, WordFault, is_same_file, is_standard_input};
+use crate::settings::{RunSettings, Settings, Task, WordFault, is_standard_input, two_in_one};
 use crate::text_options::{
     ALWAYS, ALWAYS_FILE, DEADLOCK_UNLESS, DOT, PROGRESS, QUIET, SCRIPT, TRACE, WITHIN,
 };
@@ -100,30 +100,30 @@ fn all_task<'w, S: AsStr>(alloc: Global, words: &'w [S]) -> Result<Task<'w>, Wor
     ensures refused { IfErr result (IsRefusal (all_refusals (map S.text words.entry.now))) }
 {
     let settings = all_settings(alloc, words)?;
-    if is_same_file(settings.dot, settings.quiet) {
+    if let Some(said) = two_in_one(settings.spec, settings.dot, settings.quiet) {
         drop(settings);
-        return Err(both_are_one_file(alloc));
+        return Err(both_are_one_file(alloc, said));
     }
     Ok(Task::All(settings))
 }
 
-/// The fault of words that name one file for the graph and for the script.
-fn both_are_one_file(alloc: Global) -> WordFault
+/// The fault of words that name one file twice, of which this is said.
+fn both_are_one_file(alloc: Global, said: &'static str) -> WordFault
     ensures { IsRefusal (ArgumentConflict ∷ []) result }
 {
-    match one_file_error(alloc) {
+    match one_file_error(alloc, said) {
         Ok(error) => error.into(),
         Err(error) => error.into(),
     }
 }
 
-/// What is to be said if the graph and the script are both to be written to one file.
-fn one_file_error(alloc: Global) -> Result<Error, Error>
+/// This as what is wrong with the words after `all`.
+fn one_file_error(alloc: Global, said: &str) -> Result<Error, Error>
     ensures conflict { IfOk result (λ error. kind_of error ≡ ArgumentConflict) }
     ensures memory { IfErr result (λ error. kind_of error ≡ OutOfMemory) }
 {
     let mut command = all(alloc)?;
-    let error = command.error(ErrorKind::ArgumentConflict, help::ONE_FILE);
+    let error = command.error(ErrorKind::ArgumentConflict, said);
     drop(command);
     Ok(error?)
 }
@@ -138,7 +138,7 @@ fn random_task<'w, S: AsStr>(alloc: Global, words: &'w [S]) -> Result<Task<'w>, 
     Ok(Task::Random(settings))
 }
 
-/// The same settings, whether or not the graph and the script are both to be written to one file.
+/// The same settings, whether or not one file is named twice.
 fn all_settings<'w, S: AsStr>(alloc: Global, words: &'w [S]) -> Result<Settings<'w>, Error>
     ensures in_range { IfOk result (λ s. IsTrue (are_in_range s)) }
     ensures taken { IfOk result (λ _. refusals (map S.text words.entry.now) ≡ []) }

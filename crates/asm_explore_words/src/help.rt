@@ -42,6 +42,9 @@ pub const QUIET: &str =
 
 pub const ONE_FILE: &str = "the graph and the script can't both be written to one file";
 
+pub const OVER_SPECIFICATION: &str =
+    "the graph and the script can't be written to the file of the specification";
+
 pub const TRACE: &str = "Show the trace of the run to a fault, before its script";
 
 pub const PROGRESS: &str = "Report progress on standard error; the default if that is a terminal";
@@ -83,7 +86,8 @@ derived function without parameters. If it begins with a minus, write an equals 
 `--always='-x < 3'`. A condition whose value is neither true nor false isn't true.
 
 Runs are made until one has a fault. At each choose a candidate is drawn, each as likely as another.
-The same command line finds the same on every machine; another --seed draws other runs.
+The same command line finds the same on every machine; another --seed draws other runs. Where a step
+changes nothing, all its outcomes are looked at, to see whether that is a deadlock.
 
 The output is a script: each line is `STEP PATH NUMBER`, or a comment, which begins with `# `. The
 first line says what was found:
@@ -93,6 +97,8 @@ first line says what was found:
                                 after step N of the run under the script the Kth condition isn't
                                 true: it is false, or has another value; the conditions of --always
                                 come before those of --always-file; N is 0 for the first state
+  fault after step N: deadlock  no choice changes the state after step N, and the condition of
+                                --deadlock-unless isn't true in it
   fault in step N: clash ..     step N fails as it does in asm; so do outside and exhausted
 If there is a fault, the script leads to it: steps and choices of the drawn run are left out if the
 rest has a fault, too. Further comments show the conditions, the faults that were looked for, the

@@ -46,6 +46,12 @@ pub(crate) const OUTCOMES: NumberOption = number_option!(
     Some("10000")
 );
 
+/// Of `RandomSettings::outcomes`.
+pub(crate) const RANDOM_OUTCOMES: NumberOption = NumberOption {
+    help: "See no deadlock if a rule has more than N outcomes: 1 to 1000000",
+    ..OUTCOMES
+};
+
 /// Of `RandomSettings::runs`.
 pub(crate) const RUNS: NumberOption =
     number_option!("runs", "Make at most N runs", 1 to 1_000_000, Some("1000"));

@@ -10,21 +10,23 @@ ghost use Rattle.asm_explore_words.specs.WordsSaid.{AreRandomParsed, AreRandomRe
 use crate::arguments::{is_set, texts_of, unsigned_of};
 use crate::commands::{Argument, described, with_arguments};
 use crate::help;
-use crate::number_options::{RANDOM_STEPS, RUNS, TURNS};
+use crate::number_options::{RANDOM_OUTCOMES, RANDOM_STEPS, RUNS, TURNS};
 use crate::settings::RandomSettings;
-use crate::text_options::{ALWAYS, ALWAYS_FILE, PROGRESS, TRACE};
+use crate::text_options::{ALWAYS, ALWAYS_FILE, DEADLOCK_UNLESS, PROGRESS, TRACE};
 use asm_arguments::numbers::number_of;
 use clap::{ArgMatches, Command, Error};
 use std::alloc::{AllocError, Global};
 use std::convert::AsStr;
 
 /// The arguments of `random`.
-static RANDOM_ARGUMENTS: [Argument; 9] = [
+static RANDOM_ARGUMENTS: [Argument; 11] = [
     Argument::Specification,
     Argument::Number(RANDOM_STEPS),
     Argument::Number(TURNS),
     ALWAYS,
     ALWAYS_FILE,
+    DEADLOCK_UNLESS,
+    Argument::Number(RANDOM_OUTCOMES),
     Argument::Number(RUNS),
     Argument::Seed,
     TRACE,
@@ -61,6 +63,8 @@ fn random_read<'w>(alloc: Global, given: &ArgMatches<'w>) -> Result<RandomSettin
         turns: number_of(given, TURNS),
         always: texts_of(alloc, given, "always")?,
         always_files: texts_of(alloc, given, "always-file")?,
+        when_quiet: given.get_str("deadlock-unless"),
+        outcomes: number_of(given, RANDOM_OUTCOMES),
         runs: number_of(given, RUNS),
         seed: unsigned_of(given, "seed"),
         trace: is_set(given, "trace"),

@@ -1,8 +1,9 @@
 //! What the program is asked to do.
-ghost use Rattle.std.specs.Prelude.{◌≡◌, Some, option_map};
-ghost use Rattle.asm_explore_words.specs.WordsSaid.{IsFaultOf, is_input, is_one_file};
+ghost use Rattle.std.specs.Prelude.{◌≡◌, Some, is_some, option_map};
+ghost use Rattle.asm_explore_words.specs.WordsSaid.{IsFaultOf, are_two_in_one, is_input, is_one_file, is_over_text};
 ghost use Rattle.asm_explore_words.specs.declared.settings.WordFault.TheVariants.{Memory};
 
+use crate::help;
 use clap::Error;
 use clap::error::ErrorKind;
 use std::alloc::AllocError;
@@ -66,6 +67,10 @@ pub struct RandomSettings<'w> {
     pub always: Vec<&'w str>,
     /// The names of the files of further such conditions.
     pub always_files: Vec<&'w str>,
+    /// The condition that is to be true in each quiet state.
+    pub when_quiet: Option<&'w str>,
+    /// This many outcomes may be listed to see whether a state is quiet.
+    pub outcomes: u32,
     /// This many runs are made, or fewer if one goes wrong.
     pub runs: u32,
     /// What is drawn depends on it alone.
@@ -117,8 +122,29 @@ impl From<Error> for WordFault {
     }
 }
 
+/// What is to be said if two of the specification, the graph and the script would be in one file, by
+/// these names.
+pub(crate) fn two_in_one(spec: &str, dot: Option<&str>, quiet: Option<&str>) -> Option<&'static str>
+    ensures { is_some result ≡ are_two_in_one (Some spec.now) (option_map (λ text. text.now) dot.entry) (option_map (λ text. text.now) quiet.entry) }
+{
+    if is_same_file(dot, quiet) {
+        return Some(help::ONE_FILE);
+    }
+    if is_over_specification(spec, dot, quiet) {
+        return Some(help::OVER_SPECIFICATION);
+    }
+    None
+}
+
+/// Whether the graph or the script would be written to the file that the specification is read from.
+fn is_over_specification(spec: &str, dot: Option<&str>, quiet: Option<&str>) -> bool
+    ensures { result ≡ is_over_text (Some spec.now) (option_map (λ text. text.now) dot.entry) (option_map (λ text. text.now) quiet.entry) }
+{
+    !is_standard_input(Some(spec)) && (is_named(spec, dot) || is_named(spec, quiet))
+}
+
 /// Whether both name the same file.
-pub(crate) fn is_same_file(one: Option<&str>, other: Option<&str>) -> bool
+fn is_same_file(one: Option<&str>, other: Option<&str>) -> bool
     ensures { result ≡ is_one_file (option_map (λ text. text.now) one.entry) (option_map (λ text. text.now) other.entry) }
 {
     match one {
