@@ -5,9 +5,9 @@
 --                                     this file of a script to the first of them
 --     quiet_files file run            the file that has the text of this script to a quiet state, if
 --                                     one is asked for by its name, and there is a script
---     IsCrowd finding lines           of a step with too many outcomes, at which path there are how
---                                     many beside how many others; where in the text that is is
---                                     left free
+--     IsCrowd text finding lines      of a step with too many outcomes, at which path there are how
+--                                     many beside how many others, and maybe where in the text that
+--                                     is; at which offset is left free
 --     IsGraphText asked text          the text for Graphviz of the graph of the states
 --     IsDrawn asked file lines made   if a graph is asked for by the name of a file, this file is
 --                                     made and has its text, and nothing is said; or it has more
@@ -30,6 +30,7 @@ use Rattle.asm_graph.specs.Dot.{dot_of}
 use Rattle.asm_graph.specs.Graphs.{AreTooMany, IsGraph}
 use Rattle.asm_graph.specs.declared.graph.Graph.{Graph}
 use Rattle.asm_explore_texts.specs.Conditions.{text_of, texts_of}
+use Rattle.asm_explore_texts.specs.Positions.{MayBePosition}
 use Rattle.asm_explore_texts.specs.declared.conditions.Conditions.{Conditions}
 use Rattle.asm_explore_words.specs.declared.settings.Settings.{Settings}
 use Rattle.asm_explore_report.specs.Commands.{command, file_word}
@@ -80,22 +81,23 @@ quiet_files None run = []
 quiet_files (Some name) None = []
 quiet_files (Some name) (Some run) = (name, string_bytes run.script) ∷ []
 
-pub record IsCrowdLine (crowd : RuleOverLimit) (line : List ℕ) : Type 0 where
+pub record IsCrowdLine (text : List ℕ) (crowd : RuleOverLimit) (line : List ℕ) : Type 0 where
   pub position : List ℕ
+  pub is_position : MayBePosition text position
   pub is :
       line ≡ codes "too many outcomes at " ++ (position ++ (codes "place " ++ (path_text crowd.path
       ++ (codes ": " ++ (decimal crowd.first ++ (codes " beside " ++ decimal crowd.others))))))
 
-abbrev pub IsCrowd : Finding → (lines : List (List ℕ)) → Type 0
-IsCrowd (finding.TooManyOutcomes safe_to crowd) lines = (line : List ℕ) × IsCrowdLine crowd line × (lines ≡ line ∷ [])
-IsCrowd finding.Closed lines = lines ≡ []
-IsCrowd (finding.SafeTo depth) lines = lines ≡ []
-IsCrowd (finding.BadStep bad) lines = lines ≡ []
-IsCrowd finding.WrongFirst lines = lines ≡ []
-IsCrowd (finding.TooManyStates safe_to) lines = lines ≡ []
-IsCrowd finding.StatesRepeated lines = lines ≡ []
-IsCrowd (finding.NoMemory safe_to) lines = lines ≡ []
-IsCrowd (finding.Unwritten unwritten) lines = lines ≡ []
+abbrev pub IsCrowd : (text : List ℕ) → Finding → (lines : List (List ℕ)) → Type 0
+IsCrowd text (finding.TooManyOutcomes safe_to crowd) lines = (line : List ℕ) × IsCrowdLine text crowd line × (lines ≡ line ∷ [])
+IsCrowd text finding.Closed lines = lines ≡ []
+IsCrowd text (finding.SafeTo depth) lines = lines ≡ []
+IsCrowd text (finding.BadStep bad) lines = lines ≡ []
+IsCrowd text finding.WrongFirst lines = lines ≡ []
+IsCrowd text (finding.TooManyStates safe_to) lines = lines ≡ []
+IsCrowd text finding.StatesRepeated lines = lines ≡ []
+IsCrowd text (finding.NoMemory safe_to) lines = lines ≡ []
+IsCrowd text (finding.Unwritten unwritten) lines = lines ≡ []
 
 -- ---- the run that is shown, and how it is made
 
@@ -144,9 +146,9 @@ module _ (asked : CheckedQuestion) where
 -- ---- all of them
 
 -- with these lines of the graph
-pub record AreFacts (conditions : Conditions) (settings : Settings) (answer : ExplorationResult) (graph lines : List (List ℕ)) : Type 0 where
+pub record AreFacts (text : List ℕ) (conditions : Conditions) (settings : Settings) (answer : ExplorationResult) (graph lines : List (List ℕ)) : Type 0 where
   pub crowd : List (List ℕ)
-  pub is_crowd : IsCrowd answer.finding crowd
+  pub is_crowd : IsCrowd text answer.finding crowd
   pub are :
       let counts = count_lines (option_map (λ name. name.now) settings.quiet) answer in
       let made = command_lines settings.turns settings.spec.now (shown_in answer.finding) in

@@ -55,7 +55,7 @@ module _ (text : List ℕ) (conditions : Conditions) (settings : Settings) where
     pub words : List ℕ
     pub tell : WordsTell asked.checked links asked.question.turns answer.finding words
     pub facts : List (List ℕ)
-    pub are_facts : AreFacts conditions settings answer graph facts
+    pub are_facts : AreFacts text conditions settings answer graph facts
     pub are_printed : IsPrinted text asked.question.turns settings.trace (first_line answer.finding words) facts (shown_in answer.finding) printed
 
   pub record IsReported (report : Report) (files : List MadeFile) : Type 0 where

@@ -2,6 +2,7 @@
 ghost use Rattle.std.specs.Prelude.{◌≡◌, ◌∷◌, ◌++◌, [], option_map, IfOk, OnOk};
 ghost use Rattle.std.specs.String.{string_bytes};
 ghost use Rattle.asm_explore_texts.specs.Conditions.{text_of};
+ghost use Rattle.asm_explore_texts.specs.Positions.{MayBePosition};
 ghost use Rattle.asm_explore_report.specs.Comments.{lines_of};
 ghost use Rattle.asm_explore_report.specs.Facts.{condition_line};
 ghost use Rattle.asm_explore_report.specs.ShownRuns.{shown_of};
@@ -17,7 +18,7 @@ use asm_explore_report::command::{command, push_file_word};
 use asm_explore_report::facts::{add, add_always, add_condition, add_text, looked_for};
 use asm_explore_report::shown_run::{ShownRun, first_state, run_of};
 use asm_explore_texts::conditions::{Condition, Conditions};
-use asm_explore_texts::path_text::push_position;
+use asm_explore_texts::position_text::push_position;
 use asm_explore_texts::rule_in_text::rule_in_text;
 use asm_explore_words::settings::Settings;
 use asm_run::locations::push_path;
@@ -131,7 +132,9 @@ fn position_of(
     text: &[u8],
     checked: &Checked,
     path: &[u64],
-) -> Result<Vec<u8>, AllocError> {
+) -> Result<Vec<u8>, AllocError>
+    ensures { IfOk result (λ position. MayBePosition text.now position.items) }
+{
     let mut position = Vec::new(alloc);
     if let Some(found) = rule_in_text(alloc, checked, path)? {
         push_position(alloc, &mut position, text, found.name.at)?;
@@ -147,7 +150,7 @@ fn crowd_line(
     checked: &Checked,
     crowd: &RuleOverLimit,
 ) -> Result<Vec<u8>, AllocError>
-    ensures { IfOk result (λ line. IsCrowdLine crowd.now line.items) }
+    ensures { IfOk result (λ line. IsCrowdLine text.now crowd.now line.items) }
 {
     let path = crowd.path.as_slice();
     let position = position_of(alloc, text, checked, path)?;
@@ -167,7 +170,7 @@ fn crowd_lines(
     checked: &Checked,
     finding: &Finding,
 ) -> Result<Vec<Vec<u8>>, AllocError>
-    ensures { IfOk result (λ lines. IsCrowd finding.now (lines_of lines.items)) }
+    ensures { IfOk result (λ lines. IsCrowd text.now finding.now (lines_of lines.items)) }
 {
     let mut lines = Vec::new(alloc);
     match finding {
@@ -235,7 +238,7 @@ pub(crate) fn facts(
     answered: &ExplorationResult,
     drawing: GraphFile,
 ) -> Result<Vec<Vec<u8>>, AllocError>
-    ensures { IfOk result (λ lines. AreFacts conditions.now settings.now answered.now (graph_lines drawing) (lines_of lines.items)) }
+    ensures { IfOk result (λ lines. AreFacts text.now conditions.now settings.now answered.now (graph_lines drawing) (lines_of lines.items)) }
 {
     let finding = &answered.finding;
     let mut lines = crowd_lines(alloc, text, &asked.checked, finding)?;

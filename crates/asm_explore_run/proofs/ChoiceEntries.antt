@@ -4,7 +4,7 @@
 --     asked_more, all_more         what is asked in one choice more, and in one step more
 --     listed_first, listed_next    one candidate more
 --     candidates_told              the candidates of a choice
-use Rattle.std.proofs.Common.{◌≡◌, ◌∙◌, ◌+◌, ◌-◌, ◌<◌, ◌≤◌, ℕ, zero, suc, List, [], ◌∷◌, ◌++◌, length, map, min, take, get_or, codes, Vec, Global, append_assoc, append-nil, refl, inl, inr, sym, ap, arith}
+use Rattle.std.proofs.Common.{◌≡◌, ◌∙◌, ◌+◌, ◌-◌, ◌<◌, ℕ, zero, suc, List, [], ◌∷◌, ◌++◌, length, map, min, take, get_or, codes, Vec, Global, append_assoc, append-nil, refl, inl, inr, sym, ap, arith}
 use Rattle.std.specs.List.{flat_map}
 use Rattle.std.proofs.lemmas.Grind.{flat_map-append}
 use Rattle.std.proofs.lemmas.Bool.{cases_lt}
@@ -17,7 +17,6 @@ use Rattle.asm_explore.specs.ChoicePoints.{Asking}
 use Rattle.asm_explore.specs.RunChoices.{asked_said, choices_made, lines_forward, lines_from}
 use Rattle.asm_explore.specs.code.AskedPieces.{all_said}
 use Rattle.asm_explore.specs.code.ScriptTo.{lines_for}
-use Rattle.asm_explore_report.specs.Commented.{said_by}
 use Rattle.asm_explore_report.specs.declared.commented.Entry.{Entry}
 use Rattle.asm_explore_run.specs.ChoicesText.{AreEntriesOf, IsEntryOf, and_more, candidates_text, greatest_listed, listed}
 use Rattle.asm_reader.specs.ScriptLines.{Line}
@@ -62,9 +61,9 @@ step_more steps k asked new low is grown =
 
 -- ---- comments
 
-module _ (names : TraceNames) where
-  pub entries_more : (asked : List Asking) (entries : List Entry) (a : Asking) (entry : Entry) → AreEntriesOf names asked entries → IsEntryOf names a entry
-      → AreEntriesOf names (asked ++ a ∷ []) (entries ++ entry ∷ [])
+module _ (text : List ℕ) (names : TraceNames) where
+  pub entries_more : (asked : List Asking) (entries : List Entry) (a : Asking) (entry : Entry) → AreEntriesOf text names asked entries → IsEntryOf text names a entry
+      → AreEntriesOf text names (asked ++ a ∷ []) (entries ++ entry ∷ [])
   entries_more [] [] a entry are is = (is, tt)
   entries_more [] (x ∷ entries) a entry are is = absurd are
   entries_more (x ∷ asked) [] a entry are is = absurd are

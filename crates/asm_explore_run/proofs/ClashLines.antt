@@ -16,6 +16,7 @@ use Rattle.asm_run.specs.Trace.{TraceNames, path_text, value_text}
 use Rattle.asm_run.specs.declared.end.End.{End}
 use Rattle.asm_clash.specs.declared.assignment.Assignment.{Assignment}
 use Rattle.asm_explore_report.specs.Comments.{comment, comments, in_one_line, shown}
+use Rattle.asm_explore_texts.specs.Positions.{name_at}
 use Rattle.asm_explore_run.specs.ClashText.{AreLinesOf, IsLineOf, bound_text, greatest_shown, located}
 
 pub with_rest : (first : List ℕ) (shown rest : List (List ℕ)) → comments (first ∷ shown) ++ comments rest ≡ comments (first ∷ (shown ++ rest))
@@ -34,48 +35,48 @@ pub four_more : (old a b c d s t u v : List ℕ) → s ≡ old ++ a → t ≡ s 
 four_more old a b c d s t u v first second third fourth =
     fourth ∙ ap (λ w. w ++ d) (third ∙ ap (λ w. w ++ c) (second ∙ ap (λ w. w ++ b) first)) ∙ simp (append_assoc, append-nil)
 
--- one value more, with the name that it is shown with, if it is shown
-module _ (names : TraceNames) (b : Option (List ℕ)) (d : Value) where
-  first_alone : (x : Option (List ℕ)) (w : Value) (vs : List Value) → bound_text names (x ∷ []) (w ∷ vs) ≡ bound_text names (x ∷ []) (w ∷ [])
+-- one value more, with where the name is that it is shown with, if it is shown
+module _ (text : List ℕ) (names : TraceNames) (b : Option ℕ) (d : Value) where
+  first_alone : (x : Option ℕ) (w : Value) (vs : List Value) → bound_text text names (x ∷ []) (w ∷ vs) ≡ bound_text text names (x ∷ []) (w ∷ [])
   first_alone None w vs = refl
   first_alone (Some x) w vs = refl
 
-  bound_more : (bs : List (Option (List ℕ))) (vs : List Value) (i : ℕ) → length bs ≡ i → i < length vs
-      → bound_text names (bs ++ b ∷ []) vs ≡ bound_text names bs vs ++ bound_text names (b ∷ []) (get_or vs i d ∷ [])
+  bound_more : (bs : List (Option ℕ)) (vs : List Value) (i : ℕ) → length bs ≡ i → i < length vs
+      → bound_text text names (bs ++ b ∷ []) vs ≡ bound_text text names bs vs ++ bound_text text names (b ∷ []) (get_or vs i d ∷ [])
   bound_more bs [] i long low = absurd (omega (arith, low))
   bound_more [] (w ∷ vs) zero long low = first_alone b w vs
   bound_more [] (w ∷ vs) (suc i) long low = absurd (omega (arith, long))
   bound_more (x ∷ bs) (w ∷ vs) zero long low = absurd (omega (arith, long))
   bound_more (None ∷ bs) (w ∷ vs) (suc i) long low = bound_more bs vs i (omega (arith, long)) (omega (arith, low))
   bound_more (Some x ∷ bs) (w ∷ vs) (suc i) long low =
-      let own = codes ", " ++ (x ++ (codes " = " ++ value_text names.elements w)) in
+      let own = codes ", " ++ (name_at text x ++ (codes " = " ++ value_text names.elements w)) in
       ap (λ t. own ++ t) (bound_more bs vs i (omega (arith, long)) (omega (arith, low)))
-      ∙ sym (append_assoc own (bound_text names bs vs) (bound_text names (b ∷ []) (get_or vs i d ∷ [])))
+      ∙ sym (append_assoc own (bound_text text names bs vs) (bound_text text names (b ∷ []) (get_or vs i d ∷ [])))
 
-  pub bound_on : (old line new : List ℕ) (bs : List (Option (List ℕ))) (vs : List Value) (i : ℕ) → length bs ≡ i → i < length vs → line ≡ old ++ bound_text names bs vs
-      → new ≡ line ++ bound_text names (b ∷ []) (get_or vs i d ∷ []) → new ≡ old ++ bound_text names (bs ++ b ∷ []) vs
+  pub bound_on : (old line new : List ℕ) (bs : List (Option ℕ)) (vs : List Value) (i : ℕ) → length bs ≡ i → i < length vs → line ≡ old ++ bound_text text names bs vs
+      → new ≡ line ++ bound_text text names (b ∷ []) (get_or vs i d ∷ []) → new ≡ old ++ bound_text text names (bs ++ b ∷ []) vs
   bound_on old line new bs vs i long low before is =
-      is ∙ ap (λ t. t ++ bound_text names (b ∷ []) (get_or vs i d ∷ [])) before
-      ∙ append_assoc old (bound_text names bs vs) (bound_text names (b ∷ []) (get_or vs i d ∷ []))
+      is ∙ ap (λ t. t ++ bound_text text names (b ∷ []) (get_or vs i d ∷ [])) before
+      ∙ append_assoc old (bound_text text names bs vs) (bound_text text names (b ∷ []) (get_or vs i d ∷ []))
       ∙ ap (λ t. old ++ t) (sym (bound_more bs vs i long low))
 
-module _ (names : TraceNames) (end : End) where
-  pub as_many : (found : List Assignment) (lines : List (List ℕ)) → AreLinesOf names end found lines → length found ≡ length lines
+module _ (text : List ℕ) (names : TraceNames) (end : End) where
+  pub as_many : (found : List Assignment) (lines : List (List ℕ)) → AreLinesOf text names end found lines → length found ≡ length lines
   as_many [] [] are = refl
   as_many [] (x ∷ lines) are = absurd are
   as_many (x ∷ found) [] are = absurd are
   as_many (x ∷ found) (y ∷ lines) are = ap suc (as_many found lines are.1)
 
-  pub lines_more : (found : List Assignment) (lines : List (List ℕ)) (a : Assignment) (line : List ℕ) → AreLinesOf names end found lines → IsLineOf names end a line
-      → AreLinesOf names end (found ++ a ∷ []) (lines ++ line ∷ [])
+  pub lines_more : (found : List Assignment) (lines : List (List ℕ)) (a : Assignment) (line : List ℕ) → AreLinesOf text names end found lines → IsLineOf text names end a line
+      → AreLinesOf text names end (found ++ a ∷ []) (lines ++ line ∷ [])
   lines_more [] [] a line are is = (is, tt)
   lines_more [] (x ∷ lines) a line are is = absurd are
   lines_more (x ∷ found) [] a line are is = absurd are
   lines_more (x ∷ found) (y ∷ lines) a line are is = (are.0, lines_more found lines a line are.1 is)
 
-  line_long : (a : Assignment) (line : List ℕ) → IsLineOf names end a line → 12 ≤ length line
+  line_long : (a : Assignment) (line : List ℕ) → IsLineOf text names end a line → 12 ≤ length line
   line_long a line is =
-      let bound = bound_text names is.bound a.bound.items in
+      let bound = bound_text text names is.bound a.bound.items in
       let value = value_text names.elements a.value in
       let location = located names end a.arguments.items in
       let behind_value = codes " := " ++ (value ++ bound) in
@@ -84,17 +85,17 @@ module _ (names : TraceNames) (end : End) where
       let whole : length line ≡ length (is.place ++ behind_place) = ap length is.is in
       omega (arith, whole, length-append is.place behind_place, length-append (path_text a.path) behind_path, length-append location behind_value)
 
-  comment_long : (a : Assignment) (line : List ℕ) → IsLineOf names end a line → 15 ≤ length (comment line)
+  comment_long : (a : Assignment) (line : List ℕ) → IsLineOf text names end a line → 15 ≤ length (comment line)
   comment_long a line is = omega (arith, line_long a line is, length-append (in_one_line line) (10 ∷ []), length-map line shown)
 
-  pub lines_long : (found : List Assignment) (lines : List (List ℕ)) → AreLinesOf names end found lines → 15 * length lines ≤ length (comments lines)
+  pub lines_long : (found : List Assignment) (lines : List (List ℕ)) → AreLinesOf text names end found lines → 15 * length lines ≤ length (comments lines)
   lines_long [] [] are = omega arith
   lines_long [] (x ∷ lines) are = absurd are
   lines_long (x ∷ found) [] are = absurd are
   lines_long (x ∷ found) (y ∷ lines) are = omega (arith, comment_long x y are.0, lines_long found lines are.1, length-append (comment y) (comments lines))
 
   -- so many lines are too long
-  pub too_many : (found : List Assignment) (first : List ℕ) (lines rest : List (List ℕ)) → AreLinesOf names end found lines → greatest_shown ≤ length lines
+  pub too_many : (found : List Assignment) (first : List ℕ) (lines rest : List (List ℕ)) → AreLinesOf text names end found lines → greatest_shown ≤ length lines
       → (length (comments (first ∷ lines) ++ comments rest) ≤ max_script) ⊎ (lines ≡ []) → ⊥
   too_many found first lines rest are many (inl fit) =
       omega (arith, lines_long found lines are, many, fit, length-append (comment first) (comments lines), length-append (comments (first ∷ lines)) (comments rest))

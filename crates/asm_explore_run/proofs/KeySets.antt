@@ -9,19 +9,19 @@
 --     met_by_key        a line is met just if its key is that of a choice
 --     unmet_by_key      a line isn't met just if its key is left
 --     all_left          so it is said of the lines whose keys are left
-use Rattle.std.proofs.Common.{◌≡◌, ◌==◌, ◌∙◌, ◌<◌, ◌≤◌, ◌&&◌, ◌||◌, ℕ, zero, suc, Bool, true, false, cond, not, nat_eq, nat_le, codes, List, [], ◌∷◌, ◌++◌, length, map, take, get_or, Option, None, Some, Vec, Global, refl, sym, ap, subst, arith, inl, inr}
+use Rattle.std.proofs.Common.{◌≡◌, ◌==◌, ◌∙◌, ◌≤◌, ◌&&◌, ◌||◌, ℕ, zero, suc, Bool, true, false, cond, not, nat_eq, nat_le, codes, List, [], ◌∷◌, ◌++◌, length, Option, None, Some, Vec, Global, refl, sym, ap, subst, arith, inl, inr}
 use Rattle.std.specs.BTreeSet.{BTreeSet, UpdatesBy}
 use Rattle.std.specs.Set.{KeepsOthers}
 use Rattle.std.specs.Map.{AreApart, IsKeyTest}
 use Rattle.std.specs.Cmp.{eq_by_cmp_equiv}
-use Rattle.std.specs.Cmp.Lexicographic.{bytes_decides, nat_list_cmp_total, nat_list_eq_equiv, pointwise, slice_cmp}
+use Rattle.std.specs.Cmp.Lexicographic.{bytes_decides, nat_list_cmp_total, nat_list_eq_equiv, slice_cmp}
 use Rattle.std.specs.List.{list_all, list_any, slice_split}
-use Rattle.std.specs.Ordering.{eq_by_cmp, is_eq, nat_cmp}
+use Rattle.std.specs.Ordering.{is_eq, nat_cmp}
 use Rattle.std.specs.Str.{bytes_eq}
 use Rattle.std.proofs.lemmas.Bool.{cases_Bool}
 use Rattle.std.proofs.lemmas.List.Folds.{list_all-append, list_any-append}
 use Rattle.std.proofs.lemmas.Map.Text.{is_eq-slice_cmp}
-use Rattle.asm_reader.specs.ScriptLines.{Line, SaidLine, ForStep, ForEvery, is_line_of}
+use Rattle.asm_reader.specs.ScriptLines.{Line, SaidLine, ForStep, ForEvery}
 use Rattle.asm_reader.specs.ScriptText.{is_skipped, line_of, line_of_fields, line_with, number_of, path_of, said, step_with, when_of}
 use Rattle.asm_explore.specs.code.WrittenScripts.{AreSteps}
 use Rattle.asm_explore_run.specs.UnmetLines.{is_met, is_unmet, unmet_from, unmet_line}

@@ -5,11 +5,10 @@
 --     written          the pieces of what is said of a line
 --     said_more, said_same    whether it is said
 --     counted          the number of a line
-use Rattle.std.proofs.Common.{◌≡◌, ◌∙◌, ◌+◌, ◌<◌, ◌≤◌, ◌&&◌, ℕ, zero, suc, Bool, true, false, cond, List, Bor, [], ◌∷◌, ◌++◌, length, map, take, Vec, Global, get_or, codes, decimal, append_assoc, append-nil, refl, sym, ap, subst, arith}
+use Rattle.std.proofs.Common.{◌≡◌, ◌∙◌, ◌+◌, ◌<◌, ℕ, suc, Bool, true, false, cond, List, Bor, [], ◌∷◌, ◌++◌, length, map, take, Vec, Global, get_or, codes, decimal, append_assoc, append-nil, sym, ap, arith}
 use Rattle.std.specs.BTreeSet.{BTreeSet}
 use Rattle.std.specs.Str.Lines.{strip_carriage_return}
 use Rattle.std.proofs.lemmas.List.{length-map, length-take-le, map-append, take_more}
-use Rattle.asm_reader.specs.ScriptLines.{Line}
 use Rattle.asm_explore.specs.code.WrittenScripts.{line_said, lines_said}
 use Rattle.asm_explore.specs.declared.scripts.script_line.ScriptLine.{ScriptLine}
 use Rattle.asm_explore_run.specs.UnmetLines.{unmet_line}

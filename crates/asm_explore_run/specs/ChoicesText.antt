@@ -3,8 +3,12 @@
 --     listed vs                    values with a comma between each two
 --     and_more n                   how many more there are, if there are any
 --     candidates_text vs           the first candidates, and how many more there are
---     IsChooseLine asking line     the comment for a choice: where the `choose` is in the text, and
---                                  its name, are free
+--     choose_at text at            what is said of a `choose`: line and column of its variable,
+--                                  which is at this offset of the text, and its name
+--     choose_on path               and if it isn't known there: the path of the `choose`
+--     IsChoose text path words     one of these is said of the `choose` at a path; at which offset
+--                                  is free
+--     IsChooseLine asking line     the comment for a choice: that, and its candidates
 --     IsEntryOf, AreEntriesOf      the lines of choices, each with such a comment before it
 --     IsChoicesText                a first comment, these lines with their comments, and the last
 --                                  comments; or what of it fits
@@ -12,11 +16,12 @@ use Rattle.std.specs.Prelude.{◌≡◌, ◌⊎◌, ◌-◌, ℕ, zero, suc, Lis
 use Rattle.std.specs.List.{flat_map}
 use Rattle.asm_reader.specs.ScriptLines.{Line}
 use Rattle.asm_state.specs.declared.value.Value.{Value}
-use Rattle.asm_run.specs.Trace.{TraceNames, values_text}
+use Rattle.asm_run.specs.Trace.{TraceNames, path_text, values_text}
 use Rattle.asm_explore.specs.ChoicePoints.{Asking}
 use Rattle.asm_explore_report.specs.Commented.{IsCommentedText, IsWithoutScript, said_by}
 use Rattle.asm_explore_report.specs.Comments.{lines_of}
 use Rattle.asm_explore_report.specs.declared.commented.Entry.{Entry}
+use Rattle.asm_explore_texts.specs.Positions.{name_at, position_text}
 
 abbrev pub greatest_listed : ℕ
 greatest_listed = 64
@@ -33,10 +38,21 @@ module _ (names : TraceNames) where
   abbrev pub candidates_text : List Value → List ℕ
   candidates_text vs = listed (take greatest_listed vs) ++ and_more (length vs - greatest_listed)
 
+abbrev pub choose_on : (path : List ℕ) → List ℕ
+choose_on path = codes "place " ++ (path_text path ++ codes ": choose")
+
+module _ (text : List ℕ) where
+  abbrev pub choose_at : ℕ → List ℕ
+  choose_at at = position_text text at ++ (codes ": choose " ++ name_at text at)
+
+  abbrev pub IsChoose : (path words : List ℕ) → Type 0
+  IsChoose path words = ((at : ℕ) × (words ≡ choose_at at)) ⊎ (words ≡ choose_on path)
+
+module _ (text : List ℕ) (names : TraceNames) where
   pub record IsChooseLine (asking : Asking) (line : List ℕ) : Type 0 where
-    pub place : List ℕ
-    pub name : List ℕ
-    pub is : line ≡ place ++ (codes ": choose" ++ (name ++ (codes ": " ++ candidates_text asking.candidates)))
+    pub words : List ℕ
+    pub of_choose : IsChoose text asking.choice.path words
+    pub is : line ≡ words ++ (codes ": " ++ candidates_text names asking.candidates)
 
   pub record IsEntryOf (asking : Asking) (entry : Entry) : Type 0 where
     pub line : List ℕ
@@ -49,7 +65,7 @@ module _ (names : TraceNames) where
   AreEntriesOf asked entries = ⊥
 
   -- what was asked in each step, the lines for the choices that were made, and the last comments
-  abbrev pub IsChoicesText : (first : List ℕ) → List (List Asking) → List Line → (last : List (List ℕ)) → (text : List ℕ) → Type 0
-  IsChoicesText first asked lines last text =
-      ((entries : List Entry) × (said_by entries ≡ lines) × AreEntriesOf (flat_map (λ step. step) asked) entries × IsCommentedText first entries last text)
-      ⊎ IsWithoutScript first lines text
+  abbrev pub IsChoicesText : (first : List ℕ) → List (List Asking) → List Line → (last : List (List ℕ)) → (printed : List ℕ) → Type 0
+  IsChoicesText first asked lines last printed =
+      ((entries : List Entry) × (said_by entries ≡ lines) × AreEntriesOf (flat_map (λ step. step) asked) entries × IsCommentedText first entries last printed)
+      ⊎ IsWithoutScript first lines printed

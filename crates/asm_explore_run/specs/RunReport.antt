@@ -77,11 +77,11 @@ count_in (clash.Exhausted step q) = 0
 count_in (clash.Faulty step fault found count) = count
 
 -- a first comment that tells this, and it spells the script, unless that has no text
-pub record IsPrintedOf (names : TraceNames) (Tells : List ℕ → Type 0) (asked : List (List Asking)) (lines : List Line) (unmet : List (List ℕ)) (text : List ℕ) : Type 0 where
+pub record IsPrintedOf (text : List ℕ) (names : TraceNames) (Tells : List ℕ → Type 0) (asked : List (List Asking)) (lines : List Line) (unmet : List (List ℕ)) (printed : List ℕ) : Type 0 where
   pub first : List ℕ
   pub tells : Tells first
-  pub is : IsChoicesText names first asked lines unmet text
-  pub says : IsUnrepeated (exactly lines) → IsScript text (exactly lines) ⊎ HasNoText first lines
+  pub is : IsChoicesText text names first asked lines unmet printed
+  pub says : IsUnrepeated (exactly lines) → IsScript printed (exactly lines) ⊎ HasNoText first lines
 
 module _ (text script_text : List ℕ) (settings : RunSettings) (report : Report) where
   pub record AreChoicesReported : Type 0 where
@@ -97,7 +97,7 @@ module _ (text script_text : List ℕ) (settings : RunSettings) (report : Report
         let names = names_in tree in
         let made = lines_forward steps in
         let tells = IsRunLine names settings.steps (run_asked tree settings script).end in
-        IsPrintedOf names tells asked made (unmet_lines script_text made) report.text.items
+        IsPrintedOf text names tells asked made (unmet_lines script_text made) report.text.items
     pub apart : IsUnrepeated (exactly (lines_forward steps))
     pub again : run_asked tree settings (exactly (lines_forward steps)) ≡ run_asked tree settings script
     pub status : report.status ≡ choices_status (run_asked tree settings script).end (unmet_lines script_text (lines_forward steps))
@@ -114,5 +114,5 @@ module _ (text script_text : List ℕ) (settings : RunSettings) (report : Report
     pub answered : IsReturned (run_asked tree settings script).end end
     pub first : List ℕ
     pub tells : IsRunLine (names_in tree) settings.steps (run_asked tree settings script).end first
-    pub printed : IsClashText (names_in tree) end first (assignments_in clash) (count_in clash) report.text.items
+    pub printed : IsClashText text (names_in tree) end first (assignments_in clash) (count_in clash) report.text.items
     pub status : report.status ≡ status_of_end (run_asked tree settings script).end

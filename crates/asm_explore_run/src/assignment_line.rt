@@ -3,10 +3,11 @@ ghost use Rattle.std.specs.Prelude.{◌≡◌, ◌++◌, ◌∷◌, [], ℕ, Lis
 ghost use Rattle.asm_syntax.specs.code.Views.{spec_of};
 ghost use Rattle.asm_run.specs.Written.{names_in};
 ghost use Rattle.asm_explore_run.specs.ClashText.{IsLineOf, bound_text, located};
+ghost use Rattle.asm_explore_texts.specs.Positions.{MayBePosition};
 
 use asm_check::Checked;
 use asm_clash::assignment::Assignment;
-use asm_explore_texts::path_text::push_position;
+use asm_explore_texts::position_text::{push_name, push_position};
 use asm_explore_texts::rule_in_text::{RuleInText, rule_in_text};
 use asm_run::end::End;
 use asm_run::locations::{push_location, push_path, push_value};
@@ -25,7 +26,7 @@ pub(crate) fn assignment_line(
     end: &End,
 ) -> Result<Vec<u8>, AllocError>
     ensures { let names = names_in (spec_of checked.now.spec) in
-        IfOk result (λ line. IsLineOf names end.now assignment.now line.items) }
+        IfOk result (λ line. IsLineOf text.now names end.now assignment.now line.items) }
 {
     let path = assignment.path.as_slice();
     let rule = rule_in_text(alloc, checked, path)?;
@@ -36,7 +37,7 @@ pub(crate) fn assignment_line(
     push_located(&mut line, checked, end, assignment.arguments.as_slice())?;
     line.extend_from_slice(b" := ")?;
     push_value(&mut line, checked, assignment.value)?;
-    push_all_bound(&mut line, checked, &rule, assignment.bound.as_slice())?;
+    push_all_bound(&mut line, text, checked, &rule, assignment.bound.as_slice())?;
     Ok(line)
 }
 
@@ -45,7 +46,9 @@ fn place_of(
     alloc: Global,
     text: &[u8],
     rule: &Option<RuleInText<'_>>,
-) -> Result<Vec<u8>, AllocError> {
+) -> Result<Vec<u8>, AllocError>
+    ensures { IfOk result (λ place. MayBePosition text.now place.items) }
+{
     let mut place = Vec::new(alloc);
     if let Some(rule) = rule {
         push_position(alloc, &mut place, text, rule.name.at)?;
@@ -79,15 +82,16 @@ fn push_located(
 /// Adds the names that are bound in a rule and not hidden, each with its value.
 fn push_all_bound(
     line: &mut Vec<u8>,
+    text: &[u8],
     checked: &Checked,
     rule: &Option<RuleInText<'_>>,
     values: &[Word],
 ) -> Result<(), AllocError>
     ensures { let names = names_in (spec_of checked.now.spec) in
-        OnOk result ((bound : List (Option (List ℕ))) × line.new.items ≡ line.old.items ++ bound_text names bound values.now) }
+        OnOk result ((bound : List (Option ℕ)) × line.new.items ≡ line.old.items ++ bound_text text.now names bound values.now) }
 {
     match rule {
-        Some(rule) => push_bound(line, checked, rule.bound.as_slice(), values),
+        Some(rule) => push_bound(line, text, checked, rule.bound.as_slice(), values),
         None => Ok(()),
     }
 }
@@ -95,39 +99,49 @@ fn push_all_bound(
 /// Adds these names as far as they aren't hidden, each with its value.
 fn push_bound(
     line: &mut Vec<u8>,
+    text: &[u8],
     checked: &Checked,
     names: &[&Name],
     values: &[Word],
 ) -> Result<(), AllocError>
     ensures { let names_there = names_in (spec_of checked.now.spec) in
-        OnOk result ((bound : List (Option (List ℕ))) × line.new.items ≡ line.old.items ++ bound_text names_there bound values.now) }
+        OnOk result ((bound : List (Option ℕ)) × line.new.items ≡ line.old.items ++ bound_text text.now names_there bound values.now) }
 {
     for i in 0..names.len().min(values.len()) {
-        let is_hidden = is_among(&names[..i], names[i]);
-        push_if_shown(line, checked, is_hidden, names[i], &values[i])?;
+        let shown = shown_at(&names[..i], names[i]);
+        push_if_shown(line, text, checked, shown, &values[i])?;
     }
     Ok(())
 }
 
-/// Adds a name with its value, unless it is hidden.
+/// Adds the name that stands at an offset of the text, with a value, if there is an offset.
 fn push_if_shown(
     line: &mut Vec<u8>,
+    text: &[u8],
     checked: &Checked,
-    is_hidden: bool,
-    name: &Name,
+    shown: Option<usize>,
     value: &Word,
 ) -> Result<(), AllocError>
     ensures { let names = names_in (spec_of checked.now.spec) in
-        OnOk result ((shown : Option (List ℕ)) × line.new.items ≡ line.old.items ++ bound_text names (shown ∷ []) (value.now ∷ [])) }
+        OnOk result (line.new.items ≡ line.old.items ++ bound_text text.now names (shown ∷ []) (value.now ∷ [])) }
 {
-    if is_hidden {
+    let Some(at) = shown else {
         return Ok(());
-    }
+    };
     line.extend_from_slice(b", ")?;
-    line.extend_from_slice(name.text.as_bytes())?;
+    push_name(line, text, at)?;
     line.extend_from_slice(b" = ")?;
     push_value(line, checked, *value)?;
     Ok(())
+}
+
+/// Where a name is in the text, unless one of these has the same bytes.
+fn shown_at(inner: &[&Name], name: &Name) -> Option<usize> {
+    if is_among(inner, name) {
+        None
+    } else {
+        Some(name.at)
+    }
 }
 
 /// Whether a name has the text of one of these.

@@ -26,7 +26,7 @@ fn entry<'a>(
 ) -> Result<Entry<'a>, AllocError>
     ensures line { IfOk result (λ entry. said_by (entry ∷ []) ≡ lines_for step (choices_made (asked.now ∷ []))) }
     ensures comment { let names = names_in (spec_of checked.now.spec) in
-        IfOk result (IsEntryOf names (asked_said asked.now)) }
+        IfOk result (IsEntryOf text.now names (asked_said asked.now)) }
 {
     let mut comments = Vec::new(alloc);
     comments.push(choose_line(alloc, text, checked, asked)?)?;
@@ -49,7 +49,7 @@ fn add_entries<'a>(
 ) -> Result<(), AllocError>
     ensures lines { OnOk result (said_by entries.new.items ≡ said_by entries.old.items ++ lines_for step (choices_made asked.now)) }
     ensures comments { let names = names_in (spec_of checked.now.spec) in
-        (before : List Asking) → AreEntriesOf names before entries.old.items → OnOk result (AreEntriesOf names (before ++ all_said asked.now) entries.new.items) }
+        (before : List Asking) → AreEntriesOf text.now names before entries.old.items → OnOk result (AreEntriesOf text.now names (before ++ all_said asked.now) entries.new.items) }
 {
     for i in 0..asked.len() {
         entries.push(entry(alloc, text, checked, step, &asked[i])?)?;
@@ -66,7 +66,7 @@ pub(crate) fn entries<'a>(
 ) -> Result<Vec<Entry<'a>>, AllocError>
     ensures lines { IfOk result (λ entries. said_by entries.items ≡ lines_forward (choices_in run.now)) }
     ensures comments { let names = names_in (spec_of checked.now.spec) in
-        IfOk result (λ entries. AreEntriesOf names (flat_map (λ step. step) (asked_in run.now)) entries.items) }
+        IfOk result (λ entries. AreEntriesOf text.now names (flat_map (λ step. step) (asked_in run.now)) entries.items) }
 {
     let mut entries = Vec::new(alloc);
     let steps = run.steps.as_slice();

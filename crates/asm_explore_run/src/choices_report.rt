@@ -59,7 +59,7 @@ fn printed(
     unmet: &[Vec<u8>],
 ) -> Result<Vec<u8>, AllocError>
     ensures text { let names = names_in (spec_of checked.now.spec) in
-        IfOk result (λ text. IsChoicesText names first.now (asked_in run.now) (lines_forward (choices_in run.now)) (lines_of unmet.now) text.items) }
+        IfOk result (λ printed. IsChoicesText text.now names first.now (asked_in run.now) (lines_forward (choices_in run.now)) (lines_of unmet.now) printed.items) }
     ensures says { IsUnrepeated (exactly (lines_forward (choices_in run.now))) → IfOk result (λ text. IsScript text.items (exactly (lines_forward (choices_in run.now)))
         ⊎ HasNoText first.now (lines_forward (choices_in run.now))) }
 {
@@ -109,7 +109,7 @@ fn reported<'w>(
     ensures printed { let names = names_in (spec_of checked.now.spec) in
         let made = lines_forward (choices_in run.now) in
         (e : runs.End) → IsReturned e ended.now.end →
-        IfOk result (λ report. IsPrintedOf names (IsRunLine names settings.now.steps e) (asked_in run.now) made (unmet.unmet_lines script_text.now made) report.text.items) }
+        IfOk result (λ report. IsPrintedOf text.now names (IsRunLine names settings.now.steps e) (asked_in run.now) made (unmet.unmet_lines script_text.now made) report.text.items) }
     ensures status { (e : runs.End) → IsReturned e ended.now.end →
         IfOk result (λ report. report.status ≡ choices_status e (unmet.unmet_lines script_text.now (lines_forward (choices_in run.now)))) }
 {

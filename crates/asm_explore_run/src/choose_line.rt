@@ -1,15 +1,15 @@
 //! The comment for a choice.
-ghost use Rattle.std.specs.Prelude.{◌≡◌, ◌++◌, ◌-◌, ℕ, List, codes, length, take, IfOk, OnOk};
+ghost use Rattle.std.specs.Prelude.{◌≡◌, ◌++◌, ◌-◌, ℕ, List, length, take, IfOk, OnOk};
 ghost use Rattle.asm_syntax.specs.code.Views.{spec_of};
 ghost use Rattle.asm_run.specs.Written.{names_in};
 ghost use Rattle.asm_explore.specs.RunChoices.{asked_said};
-ghost use Rattle.asm_explore_run.specs.ChoicesText.{IsChooseLine, and_more, candidates_text, listed};
+ghost use Rattle.asm_explore_run.specs.ChoicesText.{IsChoose, IsChooseLine, and_more, candidates_text, choose_at, choose_on, listed};
 
 use asm_check::Checked;
 use asm_explore::ChoicePoint;
-use asm_explore_texts::path_text::{push_path, push_position};
+use asm_explore_texts::position_text::{push_name, push_position};
 use asm_explore_texts::rule_in_text::rule_in_text;
-use asm_run::locations::push_value;
+use asm_run::locations::{push_path, push_value};
 use asm_state::word::Word;
 use asm_syntax::name::Name;
 use asm_syntax::rule::Rule;
@@ -27,7 +27,7 @@ pub(crate) fn choose_line(
     asked: &ChoicePoint,
 ) -> Result<Vec<u8>, AllocError>
     ensures { let names = names_in (spec_of checked.now.spec) in
-        IfOk result (λ line. IsChooseLine names (asked_said asked.now) line.items) }
+        IfOk result (λ line. IsChooseLine text.now names (asked_said asked.now) line.items) }
 {
     let mut line = Vec::new(alloc);
     push_choose(
@@ -42,7 +42,8 @@ pub(crate) fn choose_line(
     Ok(line)
 }
 
-/// Adds where the `choose` at a path is in the text, and the name of its variable.
+/// Adds where the `choose` at a path is in the text, and the name of its variable; or the path, if
+/// there is no such name.
 fn push_choose(
     alloc: Global,
     line: &mut Vec<u8>,
@@ -50,44 +51,37 @@ fn push_choose(
     checked: &Checked,
     path: &[u64],
 ) -> Result<(), AllocError>
-    ensures { OnOk result ((place : List ℕ) × (name : List ℕ) × line.new.items ≡ place ++ (codes ": choose" ++ name)) }
+    ensures { OnOk result ((words : List ℕ) × IsChoose text.now path.now words × (line.new.items ≡ line.old.items ++ words)) }
 {
-    let name = variable(alloc, checked, path)?;
-    push_place(alloc, line, text, path, name)?;
-    line.extend_from_slice(b": choose")?;
-    push_name(line, name)?;
-    Ok(())
+    match variable(alloc, checked, path)? {
+        Some(name) => push_variable(alloc, line, text, name.at),
+        None => push_place(line, path),
+    }
 }
 
-/// Adds line and column of a variable; or a path, if there is none.
-fn push_place(
+/// Adds line and column of a variable, and its name.
+fn push_variable(
     alloc: Global,
     line: &mut Vec<u8>,
     text: &[u8],
-    path: &[u64],
-    name: Option<&Name>,
-) -> Result<(), AllocError> {
-    match name {
-        Some(name) => push_position(alloc, line, text, name.at),
-        None => {
-            line.extend_from_slice(b"place ")?;
-            push_path(alloc, line, path)
-        }
-    }
+    at: usize,
+) -> Result<(), AllocError>
+    ensures { OnOk result (line.new.items ≡ line.old.items ++ choose_at text.now at) }
+{
+    push_position(alloc, line, text, at)?;
+    line.extend_from_slice(b": choose ")?;
+    push_name(line, text, at)?;
+    Ok(())
 }
 
-/// Adds the name of a variable, if there is one.
-fn push_name(line: &mut Vec<u8>, name: Option<&Name>) -> Result<(), AllocError>
-    ensures { OnOk result ((shown : List ℕ) × line.new.items ≡ line.old.items ++ shown) }
+/// Adds the path of a `choose`.
+fn push_place(line: &mut Vec<u8>, path: &[u64]) -> Result<(), AllocError>
+    ensures { OnOk result (line.new.items ≡ line.old.items ++ choose_on path.now) }
 {
-    match name {
-        Some(name) => {
-            line.extend_from_slice(b" ")?;
-            line.extend_from_slice(name.text.as_bytes())?;
-            Ok(())
-        }
-        None => Ok(()),
-    }
+    line.extend_from_slice(b"place ")?;
+    push_path(line, path)?;
+    line.extend_from_slice(b": choose")?;
+    Ok(())
 }
 
 /// The variable of the `choose` at a path of the main rule, if the text has one there.

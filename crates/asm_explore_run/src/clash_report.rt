@@ -88,7 +88,7 @@ fn printed<'w>(
     requires { length (assignments_in clash.now) ≡ min greatest_shown (count_in clash.now) }
     ensures { let names = names_in (spec_of checked.now.spec) in
         (e : runs.End) → IsReturned e ended.now.end →
-        IfOk result (λ text. (first : List ℕ) × IsRunLine names settings.now.steps e first × IsClashText names ended.now.end first (assignments_in clash.now) (count_in clash.now) text.items) }
+        IfOk result (λ printed. (first : List ℕ) × IsRunLine names settings.now.steps e first × IsClashText text.now names ended.now.end first (assignments_in clash.now) (count_in clash.now) printed.items) }
 {
     let first = ended.line(alloc, checked, settings.steps)?;
     let found = assignments(clash);

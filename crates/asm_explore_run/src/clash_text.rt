@@ -71,7 +71,7 @@ pub(crate) fn clash_text(
 ) -> Result<Vec<u8>, AllocError>
     requires { length assignments.now ≡ min greatest_shown count }
     ensures { let names = names_in (spec_of checked.now.spec) in
-        IfOk result (λ text. IsClashText names end.now first.now assignments.now count text.items) }
+        IfOk result (λ printed. IsClashText text.now names end.now first.now assignments.now count printed.items) }
 {
     let mut shown = comments(alloc, first, &[])?;
     for k in 0..assignments.len() {

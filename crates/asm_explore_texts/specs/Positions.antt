@@ -1,13 +1,18 @@
--- Definition. Where an offset is in a text.
+-- Definition. Where an offset is in a text, and what stands there.
 --     line_number, column_number       as a user counts, from 1
 --     column_in_text                   the column, if the line is UTF-8 up to the offset
 --     before_in_line, from_in_line     the line, before the offset and from it on
 --     characters                       what counts as a column
-use Rattle.std.specs.Prelude.{ℕ, zero, suc, ◌+◌, ◌-◌, ◌==◌, Bool, Option, None, Some, List, [], ◌∷◌, take, drop, length, count_by, slice_get, unwrap_or}
+--     position_text                    line and column, in words
+--     MayBePosition text place         this is that of some offset of the text, with a comma behind
+--                                      it, or empty
+--     name_at                          the name that stands at an offset
+use Rattle.std.specs.Prelude.{◌≡◌, ◌⊎◌, ℕ, zero, suc, ◌+◌, ◌-◌, ◌==◌, Bool, Option, None, Some, List, [], ◌∷◌, ◌++◌, take, drop, length, count_by, slice_get, take_while, unwrap_or, codes, decimal}
 use Rattle.std.specs.Char.{len_utf8}
 use Rattle.std.specs.List.{after_last, before_first}
 use Rattle.std.specs.Str.{chars}
 use Rattle.std.specs.Str.Lossy.{utf8_valid_len}
+use Rattle.asm_syntax.specs.Tokens.{is_letter_or_digit}
 
 -- ---- lines
 
@@ -55,3 +60,15 @@ column_number text at = length (characters (before_in_line text at)) + 1
 -- the same, if the bytes before the offset are UTF-8: by the characters that they spell
 abbrev pub column_in_text : (text : List ℕ) → ℕ → ℕ
 column_in_text text at = length (chars (before_in_line text at)) + 1
+
+-- ---- in words
+
+abbrev pub position_text : (text : List ℕ) → ℕ → List ℕ
+position_text text at = codes "line " ++ (decimal (line_number text at) ++ (codes ", column " ++ decimal (column_number text at)))
+
+abbrev pub MayBePosition : (text place : List ℕ) → Type 0
+MayBePosition text place = (place ≡ []) ⊎ ((at : ℕ) × (place ≡ position_text text at ++ codes ", "))
+
+-- the letters, digits and `_` from the offset on
+abbrev pub name_at : (text : List ℕ) → ℕ → List ℕ
+name_at text at = take_while is_letter_or_digit (drop at text)

@@ -6,7 +6,7 @@ pub mod condition;
 pub mod conditions;
 pub mod excerpt;
 mod first_name;
-pub mod path_text;
 pub mod position;
+pub mod position_text;
 pub mod rule_in_text;
 pub mod script_given;

@@ -12,12 +12,12 @@ loop-i-preserved c =
     let values = c.args.values.now in
     let i = c.loop-i.i in
     let bound = c.loop-i.invariant.0 in
-    let b = c.in_ok-push_if_shown.ensures.0 in
+    let b = c.shown_at-shown.result in
     let value = c.index-values-i.result in
     let line = c.loop-i.line.items in
     let low : i < length values = omega (arith, c.loop-i-test.true, c.min-i-end.ensures) in (
       bound ++ b ∷ [],
       omega (arith, length-append bound (b ∷ []), c.loop-i.invariant.1),
-      bound_on names b value c.args.line.now.items line c.push_if_shown.new.line.items bound values i c.loop-i.invariant.1 low c.loop-i.invariant.2
-          (c.in_ok-push_if_shown.ensures.1 ∙ ap (λ (v : Value). line ++ bound_text names (b ∷ []) (v ∷ [])) c.index-values-i.is),
+      bound_on c.args.text.now names b value c.args.line.now.items line c.push_if_shown.new.line.items bound values i c.loop-i.invariant.1 low c.loop-i.invariant.2
+          (c.in_ok-push_if_shown.ensures ∙ ap (λ (v : Value). line ++ bound_text c.args.text.now names (b ∷ []) (v ∷ [])) c.index-values-i.is),
     )

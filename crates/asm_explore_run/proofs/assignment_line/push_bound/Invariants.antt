@@ -6,4 +6,4 @@ use Rattle.asm_explore_run.proofs.assignment_line.push_bound.Given as goal
 
 abbrev pub invariant-loop-i : goal.invariant-loop-i
 invariant-loop-i l =
-    (bound : List (Option (List ℕ))) × (length bound ≡ l.i) × (l.line.items ≡ l.initial.line.items ++ bound_text (names_in (spec_of l.checked.spec)) bound l.values)
+    (bound : List (Option ℕ)) × (length bound ≡ l.i) × (l.line.items ≡ l.initial.line.items ++ bound_text l.text (names_in (spec_of l.checked.spec)) bound l.values)

@@ -26,7 +26,7 @@ loop-i-preserved c =
       lines = lines_more c.args.step asked i a (said_by c.args.entries.now.items) (said_by new) low c.index-asked-i.is
           (ap said_by pushed ∙ (map-append (λ e. line_said e.line) old (entry ∷ []) ∙ (λ j. c.loop-i.invariant.lines j ++ c.in_ok-entry.ensures.line j)));
       comments = λ before are.
-          subst (λ xs. AreEntriesOf names xs new) (asked_more before asked i a low c.index-asked-i.is)
-          (subst (λ es. AreEntriesOf names ((before ++ all_said (take i asked)) ++ asked_said a ∷ []) es) (sym {A = List Entry} pushed)
-          (entries_more names (before ++ all_said (take i asked)) old (asked_said a) entry (c.loop-i.invariant.comments before are) c.in_ok-entry.ensures.comment));
+          subst (λ xs. AreEntriesOf c.args.text.now names xs new) (asked_more before asked i a low c.index-asked-i.is)
+          (subst (λ es. AreEntriesOf c.args.text.now names ((before ++ all_said (take i asked)) ++ asked_said a ∷ []) es) (sym {A = List Entry} pushed)
+          (entries_more c.args.text.now names (before ++ all_said (take i asked)) old (asked_said a) entry (c.loop-i.invariant.comments before are) c.in_ok-entry.ensures.comment));
     }

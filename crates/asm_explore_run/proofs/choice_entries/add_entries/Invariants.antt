@@ -13,6 +13,6 @@ use Rattle.asm_explore_run.proofs.choice_entries.add_entries.Given as goal
 abbrev pub invariant-loop-i : goal.invariant-loop-i
 invariant-loop-i l = record {
   lines : said_by l.entries.items ≡ said_by l.fn.entries.items ++ lines_for l.step (choices_made (take l.i l.asked));
-  comments : (before : List Asking) → AreEntriesOf (names_in (spec_of l.checked.spec)) before l.fn.entries.items
-      → AreEntriesOf (names_in (spec_of l.checked.spec)) (before ++ all_said (take l.i l.asked)) l.entries.items;
+  comments : (before : List Asking) → AreEntriesOf l.text (names_in (spec_of l.checked.spec)) before l.fn.entries.items
+      → AreEntriesOf l.text (names_in (spec_of l.checked.spec)) (before ++ all_said (take l.i l.asked)) l.entries.items;
 }

@@ -20,7 +20,7 @@ loop-k-preserved c =
     record {
       lines = step_more steps k asked (said_by new) low c.index-steps-k.is
           (c.in_ok-add_entries.ensures.lines ∙ (λ j. c.loop-k.invariant.lines j ++ lines_for (k + 1) (choices_made (c.as_slice.ensures.value j))));
-      comments = subst (λ xs. AreEntriesOf names xs new) (all_more steps k asked low c.index-steps-k.is)
-          (subst (λ ys. AreEntriesOf names (steps_asked (take k steps) ++ all_said ys) new) c.as_slice.ensures.value
+      comments = subst (λ xs. AreEntriesOf c.args.text.now names xs new) (all_more steps k asked low c.index-steps-k.is)
+          (subst (λ ys. AreEntriesOf c.args.text.now names (steps_asked (take k steps) ++ all_said ys) new) c.as_slice.ensures.value
           (c.in_ok-add_entries.ensures.comments (steps_asked (take k steps)) c.loop-k.invariant.comments));
     }

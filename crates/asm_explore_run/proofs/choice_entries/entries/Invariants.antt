@@ -11,5 +11,5 @@ use Rattle.asm_explore_run.proofs.choice_entries.entries.Given as goal
 abbrev pub invariant-loop-k : goal.invariant-loop-k
 invariant-loop-k l = record {
   lines : said_by l.entries.items ≡ lines_forward (steps_made (take l.k l.steps));
-  comments : AreEntriesOf (names_in (spec_of l.checked.spec)) (steps_asked (take l.k l.steps)) l.entries.items;
+  comments : AreEntriesOf l.text (names_in (spec_of l.checked.spec)) (steps_asked (take l.k l.steps)) l.entries.items;
 }

@@ -1,4 +1,4 @@
-use Rattle.std.proofs.Common.{◌<◌, ap, arith, inl, inr, length, sym, subst}
+use Rattle.std.proofs.Common.{◌<◌, ap, arith, inr, length}
 use Rattle.std.proofs.lemmas.Result.{IfOk-weaker}
 use Rattle.asm_explore.specs.RunChoices.{choices_in, lines_forward}
 use Rattle.asm_explore_run.proofs.ShortLines.{said_length, too_many}

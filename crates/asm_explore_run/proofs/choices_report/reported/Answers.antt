@@ -19,7 +19,7 @@ returns-clause-printed c = λ e is.
     record {
       first = first;
       tells = subst (IsRunLine names c.args.settings.now.steps e) (sym c.as_slice.ensures.value) (c.in_ok-first.ensures e is);
-      is = subst (λ last. IsChoicesText names first (asked_in run) (lines_forward (choices_in run)) last c.in_ok-text.text.items) (ap lines_of c.as_slice-2.ensures.value ∙ c.in_ok-unmet.ensures) c.in_ok-text.ensures.text;
+      is = subst (λ last. IsChoicesText c.args.text.now names first (asked_in run) (lines_forward (choices_in run)) last c.in_ok-text.text.items) (ap lines_of c.as_slice-2.ensures.value ∙ c.in_ok-unmet.ensures) c.in_ok-text.ensures.text;
       says = λ apart. c.in_ok-text.ensures.says apart;
     }
 

@@ -17,6 +17,6 @@ returns c = λ e is.
     let end = c.args.ended.now.end in (
       first,
       subst (IsRunLine names c.args.settings.now.steps e) (sym c.as_slice.ensures.value) (c.in_ok-first.ensures e is),
-      subst (λ n. IsClashText names end first (assignments_in c.args.clash.now) n c.in_ok-text.text.items) c.count_of-count.ensures
-          (subst (λ (all : List Assignment). IsClashText names end first all c.count_of-count.result c.in_ok-text.text.items) c.assignments-found.ensures c.in_ok-text.ensures),
+      subst (λ n. IsClashText c.args.text.now names end first (assignments_in c.args.clash.now) n c.in_ok-text.text.items) c.count_of-count.ensures
+          (subst (λ (all : List Assignment). IsClashText c.args.text.now names end first all c.count_of-count.result c.in_ok-text.text.items) c.assignments-found.ensures c.in_ok-text.ensures),
     )

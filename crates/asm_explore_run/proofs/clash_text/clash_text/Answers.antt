@@ -29,8 +29,8 @@ loop-k-preserved c =
       omega (arith, length-append lines (line ∷ []), c.loop-k.invariant.1),
       added.0 ∙ (ap (λ t. t ++ comment line) c.loop-k.invariant.2 ∙ one_more first lines line),
       inl (subst (λ rest. length (c.add_if_it_fits.new.text.items ++ comments (more rest)) ≤ max_script) left added.1),
-      subst (λ (xs : List Assignment). AreLinesOf names end xs (lines ++ line ∷ [])) (sym (take_more all k a low ∙ ap (λ (x : Assignment). take k all ++ x ∷ []) (sym c.index-assignments-k.is)))
-          (lines_more names end (take k all) lines a line c.loop-k.invariant.4 (subst (IsLineOf names end a) (sym c.as_slice.ensures.value) c.in_ok-line.ensures)),
+      subst (λ (xs : List Assignment). AreLinesOf c.args.text.now names end xs (lines ++ line ∷ [])) (sym (take_more all k a low ∙ ap (λ (x : Assignment). take k all ++ x ∷ []) (sym c.index-assignments-k.is)))
+          (lines_more c.args.text.now names end (take k all) lines a line c.loop-k.invariant.4 (subst (IsLineOf c.args.text.now names end a) (sym c.as_slice.ensures.value) c.in_ok-line.ensures)),
     )
 
 pub returns-then-not-fits : goal.returns-then-not-fits
@@ -54,7 +54,7 @@ returns-then-not-fits c =
     record {
       shown = lines;
       rest = rest;
-      of_first = subst (λ n. AreLinesOf names end (take n all) lines) (sym c.loop-k.invariant.1) c.loop-k.invariant.4;
+      of_first = subst (λ n. AreLinesOf c.args.text.now names end (take n all) lines) (sym c.loop-k.invariant.1) c.loop-k.invariant.4;
       all = omega (arith, c.loop-k.invariant.1, low, c.requires);
       is = text ∙ (ap (λ t. t ++ comments (more rest)) c.loop-k.invariant.2 ∙ with_rest first lines (more rest));
       fits = elim c.loop-k.invariant.3 [
@@ -65,7 +65,7 @@ returns-then-not-fits c =
         a,
         line,
         subst (λ n. slice_get all n ≡ Some a) (sym c.loop-k.invariant.1) (found_at all k a low c.index-assignments-k.is),
-        subst (IsLineOf names end a) (sym c.as_slice.ensures.value) c.in_ok-line.ensures,
+        subst (IsLineOf c.args.text.now names end a) (sym c.as_slice.ensures.value) c.in_ok-line.ensures,
         subst (λ (t : List ℕ). max_script < length t) longer left.1,
       );
     }
@@ -82,17 +82,17 @@ returns c =
     let shown = c.loop-k.shown.items in
     let past : length all ≤ k = omega (arith, c.loop-k-test.false) in
     let are = c.loop-k.invariant.4 in
-    let whole : k ≡ length all = omega (arith, past, sym c.loop-k.invariant.1 ∙ sym (as_many names end (take k all) lines are), length-take k all) in
+    let whole : k ≡ length all = omega (arith, past, sym c.loop-k.invariant.1 ∙ sym (as_many c.args.text.now names end (take k all) lines are), length-take k all) in
     let fit = subst (λ t. (length (t ++ comments (more rest)) ≤ max_script) ⊎ (lines ≡ [])) c.loop-k.invariant.2 c.loop-k.invariant.3 in
     let few : length lines < greatest_shown = elim (cases_lt (length lines) greatest_shown) [
       | inl low ↦ low
-      | inr many ↦ absurd (too_many names end (take k all) first lines (more rest) are many fit)
+      | inr many ↦ absurd (too_many c.args.text.now names end (take k all) first lines (more rest) are many fit)
     ] in
     let nothing : rest ≡ 0 = omega (arith, whole, few, c.loop-k.invariant.1, c.requires) in
     record {
       shown = lines;
       rest = 0;
-      of_first = subst (λ n. AreLinesOf names end (take n all) lines) (sym c.loop-k.invariant.1) are;
+      of_first = subst (λ n. AreLinesOf c.args.text.now names end (take n all) lines) (sym c.loop-k.invariant.1) are;
       all = omega (arith, c.loop-k.invariant.1, nothing, whole, c.requires);
       is = c.loop-k.invariant.2 ∙ sym (append-nil (comments (first ∷ lines))) ∙ with_rest first lines [];
       fits = elim fit [

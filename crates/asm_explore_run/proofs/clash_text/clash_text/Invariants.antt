@@ -11,4 +11,4 @@ abbrev pub invariant-loop-k : goal.invariant-loop-k
 invariant-loop-k l =
     (lines : List (List ℕ)) × (length lines ≡ l.k) × (l.shown.items ≡ comments (l.first ∷ lines))
     × ((length (l.shown.items ++ comments (more (l.count - l.k))) ≤ max_script) ⊎ (lines ≡ []))
-    × AreLinesOf (names_in (spec_of l.checked.spec)) l.end (take l.k l.assignments) lines
+    × AreLinesOf l.text (names_in (spec_of l.checked.spec)) l.end (take l.k l.assignments) lines

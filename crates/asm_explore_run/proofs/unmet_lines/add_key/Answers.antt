@@ -1,7 +1,6 @@
-use Rattle.std.proofs.Common.{◌≡◌, ◌∙◌, ap, cond, sym, true, Some}
-use Rattle.std.specs.Str.{bytes_eq}
-use Rattle.asm_explore_run.specs.code.LineKeys.{IsKeyOf, has_key}
-use Rattle.asm_explore_run.proofs.KeySets.{changed, grown, none_said, nothing_said, one_said, same_key, subst_key}
+use Rattle.std.proofs.Common.{◌∙◌, ap, sym}
+use Rattle.asm_explore_run.specs.code.LineKeys.{has_key}
+use Rattle.asm_explore_run.proofs.KeySets.{grown, nothing_said, one_said, same_key, subst_key}
 use Rattle.asm_explore_run.proofs.unmet_lines.add_key.Goals as goal
 
 pub returns-then-is_skipped-clause-added : goal.returns-then-is_skipped-clause-added

@@ -1,4 +1,4 @@
-use Rattle.std.proofs.Common.{◌≡◌, ◌∙◌, ◌++◌, ◌∷◌, [], ap, map, subst, sym, take, true}
+use Rattle.std.proofs.Common.{◌∙◌, ap, map, take}
 use Rattle.std.specs.Str.Lines.{strip_carriage_return}
 use Rattle.asm_explore_run.specs.code.LineKeys.{have_keys}
 use Rattle.asm_explore_run.proofs.KeySets.{kept_all, one_more}

@@ -1,4 +1,4 @@
-use Rattle.std.proofs.Common.{◌≡◌, ◌∷◌, ◌∙◌, ap, cond, false, subst}
+use Rattle.std.proofs.Common.{◌∙◌, ap, cond, false}
 use Rattle.std.specs.Str.{bytes_eq}
 use Rattle.asm_explore_run.specs.code.LineKeys.{has_key}
 use Rattle.asm_explore_run.proofs.KeySets.{changed}

@@ -1,4 +1,4 @@
-use Rattle.std.proofs.Common.{◌≡◌, ◌≤◌, ◌∙◌, ap, arith, cond, false, length, refl, sym, take}
+use Rattle.std.proofs.Common.{◌≤◌, ◌∙◌, ap, arith, cond, false, length, refl}
 use Rattle.std.proofs.lemmas.List.{take_all}
 use Rattle.asm_explore.specs.code.WrittenScripts.{lines_said}
 use Rattle.asm_explore_run.specs.code.LineKeys.{has_key, is_made}

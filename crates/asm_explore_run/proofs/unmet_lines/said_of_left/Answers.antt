@@ -1,4 +1,4 @@
-use Rattle.std.proofs.Common.{◌≡◌, ◌+◌, ◌∙◌, ◌++◌, ◌∷◌, [], ap, cond, map, sym, take}
+use Rattle.std.proofs.Common.{◌+◌, ◌∙◌, ◌++◌, ◌∷◌, [], ap, cond, map, sym, take}
 use Rattle.std.specs.Str.Lines.{strip_carriage_return}
 use Rattle.asm_explore_run.specs.UnmetLines.{unmet_line}
 use Rattle.asm_explore_run.specs.code.LineKeys.{has_key_of, left_from}
