@@ -178,6 +178,15 @@ class Machine:
             state = ends.state
         return None
 
+    def made(self, draft, steps):
+        """The path and the number of each choose that so many steps of the run under a draft ask, step by step."""
+        state, none = 0, {}
+        for step in range(1, steps + 1):
+            numbers = draft[step - 1] if step <= len(draft) else none
+            asked, ends = self.step(state, lambda path, candidates: numbers.get(path, 0) % candidates)
+            yield asked
+            state = ends.state
+
 
 # ---- what is left out of the first steps of a draft
 
@@ -282,14 +291,14 @@ def found_by(machine, question):
     return Found(question.runs, steps)
 
 
-def script_of(short):
-    """The lines of the script of a run."""
-    for step, numbers in enumerate(short.draft[: short.wrong.step], 1):
-        yield from (f"{step} {shown_path(path)} {number}" for path, number in sorted(numbers.items()))
+def script_of(machine, short):
+    """The lines of the script of a run: of the choices that lead to its fault, but for those of first candidates."""
+    for step, asked in enumerate(machine.made(short.draft, short.wrong.shown_after()), 1):
+        yield from (f"{step} {shown_path(path)} {number}" for path, number in asked if number)
+
 
 def shown(condition):
     return condition if len(condition) <= SHOWN else f"{condition[:SHOWN]} .."
-
 
 
 def facts(question, found, first):
@@ -331,7 +340,7 @@ def answer_to(machine, question, spec="-"):
     if found.run is None:
         none = f"no fault in {question.runs} runs of at most {question.steps} steps"
         return Answer(list(facts(question, found, none)), [], found)
-    return answer_of(question, found, found.short.wrong, list(script_of(found.short)), spec)
+    return answer_of(question, found, found.short.wrong, list(script_of(machine, found.short)), spec)
 
 
 def answer_of(question, found, wrong, lines, spec):

@@ -25,7 +25,7 @@ class Call(NamedTuple):
 
     def machine(self):
         question = self.question()
-        return Machine(self.text, question.turns, question.always)
+        return Machine(self.text, question.turns, question.always, question.when_quiet)
 
     def answer(self):
         """What is to be answered."""
@@ -39,9 +39,10 @@ def asked_by(words):
     """What the words ask for."""
     known = argparse.ArgumentParser()
     for option, default in Question()._asdict().items():
-        if option != "always":
+        if option not in ("always", "when_quiet"):
             known.add_argument(f"--{option}", type=int, default=default)
     known.add_argument("--always", action="append", default=[])
+    known.add_argument("--deadlock-unless", dest="when_quiet")
     given = known.parse_args(words)
     return Question(**{**vars(given), "always": tuple(given.always)})
 
@@ -126,6 +127,12 @@ function controlled f : U
 rule M = forall u in U with u mod 300 = 299 do choose v in U with v mod 400 = 3 do f(u) := v endchoose endforall
 """
 
+# States in which nothing changes whatever is chosen, and others in which that depends on the choice.
+STUCK = """universe U = 0 .. 5
+function controlled n initially 1
+rule M = if n != 3 and n != 0 then choose u in U do if u != 4 then n := (n * u) mod 7 endif endchoose endif
+"""
+
 EATING = "not (exists p in Philosopher with meals(p) = 2)"
 WAITING = "(exists s in Seat with holder(s) != s)"
 
@@ -150,9 +157,13 @@ CALLS = [
     # Elections choose nothing: each run is the same, and ends where nothing changes.
     example("election", "--runs", "3"),
     example("election", "--always", "leader < 6"),
+    example("election", "--deadlock-unless", "false"),
+    example("election", "--deadlock-unless", "leader != undef", "--runs", "3"),
     example("counter", "--always", "x < 3", "--steps", "3"),
     example("counter", "--always", "x < 3", "--steps", "2", "--runs", "7"),
     example("guide/forks", "--always", WAITING),
+    example("guide/forks", "--deadlock-unless", "false"),
+    example("guide/forks", "--deadlock-unless", WAITING, "--always", WAITING, "--steps", "30"),
     example("guide/outside"),
     example("guide/forever", "--turns", "5"),
     example("guide/dice", "--turns", "30", "--steps", "20"),
@@ -172,6 +183,11 @@ CALLS = [
     of(MANY, "--always", "x != 99", "--steps", "50", "--runs", "20"),
     of(MANY, "--always", "x < 80", "--steps", "4", "--runs", "20"),
     of(FAR, "--always", "f(299) = undef or f(299) = f(1199) or f(599) != f(899)", "--steps", "4", "--runs", "20"),
+    of(STUCK, "--deadlock-unless", "n = 3", "--steps", "40"),
+    of(STUCK, "--deadlock-unless", "n > 0", "--steps", "40", "--runs", "30"),
+    of(STUCK, "--deadlock-unless", "n = 3", "--always", "n != 5", "--steps", "40"),
+    of("rule M = skip\n", "--deadlock-unless", "false"),
+    of("rule M = skip\n", "--deadlock-unless", "false", "--steps", "0", "--runs", "2"),
     of("rule M = skip\n", "--runs", "20000", "--steps", "1000000"),
 ]
 
