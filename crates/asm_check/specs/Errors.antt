@@ -3,10 +3,11 @@ use Rattle.std.specs.Prelude.{ℕ, Option, Some, None}
 use Rattle.asm_check.specs.declared.error.FaultKind.{FaultKind}
 use Rattle.asm_check.specs.declared.error.FaultKind.TheVariants.{Twice, Unknown, Arity, NotControlled, CyclicRule, CyclicDerived, Init, TooMany, TableEntry, ResultUse}
 use Rattle.asm_check.specs.declared.error.CheckError.{CheckError}
-use Rattle.asm_syntax.specs.SourceTree.{Spec}
+use Rattle.asm_syntax.specs.SourceTree.{Spec, Term}
 use Rattle.asm_syntax.specs.declared.input_error.InputError.{InputError}
 use Rattle.asm_syntax.specs.declared.input_error.InputError.TheVariants.{Memory, Named}
 use Rattle.asm_check.specs.Faults.{IsLeastFault}
+use Rattle.asm_check.specs.TermFaults.{IsLeastTermFault}
 
 abbrev pub number_of : FaultKind → ℕ
 number_of Twice = 8
@@ -31,3 +32,8 @@ found_of (Some e) = Some (fault_of e)
 abbrev pub Explains : Spec → InputError CheckError → Type 0
 Explains spec Memory = Unit {0}
 Explains spec (Named e) = IsLeastFault spec e.at (number_of e.kind)
+
+-- what it says of a term that is asked of the specification
+abbrev pub ExplainsTerm : Spec → Term → InputError CheckError → Type 0
+ExplainsTerm spec t Memory = Unit {0}
+ExplainsTerm spec t (Named e) = IsLeastTermFault spec t e.at (number_of e.kind)

@@ -1,5 +1,5 @@
 -- Laws of faults.
-use Rattle.std.specs.Prelude.{◌≡◌, ◌≢◌, ◌≤◌, ◌⊎◌, ◌↔◌, ℕ, true, List, map, length, slice_get, Option, Some, Contains}
+use Rattle.std.specs.Prelude.{◌≡◌, ◌≢◌, ◌≤◌, ◌⊎◌, ◌↔◌, ℕ, true, List, [], map, length, slice_get, Option, Some, Contains}
 use Rattle.asm_state.specs.declared.element.TheConstants.{MAX_ELEMENTS}
 use Rattle.asm_state.specs.declared.signature_limits.TheConstants.{MAX_ARGUMENTS}
 use Rattle.asm_state.specs.declared.function.Function as state
@@ -14,7 +14,8 @@ use Rattle.asm_syntax.specs.declared.term.Term as code
 use Rattle.asm_check.specs.Names.{Text, Declaration, Meaning, declares, declared, function_of, is_text, term_count, Predeclared, Enumeration, Element}
 use Rattle.asm_check.specs.Limits.{domain_of}
 use Rattle.asm_check.specs.WithinLimits.{IsWithinLimits}
-use Rattle.asm_check.specs.Faults.{IsLeastFault, IsWellFormed}
+use Rattle.asm_check.specs.Faults.{IsFault, IsLeastFault, IsWellFormed}
+use Rattle.asm_check.specs.TermFaults.{IsTermFault, IsWellFormedTerm}
 use Rattle.asm_check.specs.Ranks.{HasRanks}
 use Rattle.asm_check.specs.Fit.{IsFitTerm, IsFitRule, IsReady, HasFitBodies}
 use Rattle.asm_check.specs.Introduced.{HasNamesApart, AreDeclaredSo}
@@ -52,6 +53,15 @@ BodiesAreFit = (spec : Spec) → IsWellFormed spec → IsReady spec
 -- the same of each rule and each derived function, by its number
 abbrev pub NumberedBodiesAreFit : Type 0
 NumberedBodiesAreFit = (spec : Spec) → IsWellFormed spec → HasFitBodies spec
+
+-- each fault of a term that is the body of a derived function without parameters is one of the
+-- specification
+abbrev pub TermFaultsAreFaults : Type 0
+TermFaultsAreFaults = (spec : Spec) (x : Name) (t : Term) → Contains spec.items (source.Derived x [] t) → (at number : ℕ) → IsTermFault spec t at number → IsFault spec at number
+
+-- in a term without faults each name stands for what its use asks for
+abbrev pub TermsAreFit : Type 0
+TermsAreFit = (spec : Spec) (t : Term) → IsWellFormedTerm spec t → IsFitTerm spec t []
 
 -- if a term or a rule is fit under some bound names, it is so wherever the same names are bound
 abbrev pub ScopesByMembers : Type 0

@@ -3,6 +3,7 @@ pub mod CallGraph
 pub mod Limits
 pub mod BoundLaws
 pub mod Faults
+pub mod TermFaults
 pub mod Errors
 pub mod Numbers
 pub mod Shapes

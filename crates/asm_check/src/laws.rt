@@ -1,6 +1,6 @@
 //! Laws of faults, and what a specification without faults has.
 ghost use Rattle.asm_check.specs.BoundLaws.{BoundLaws};
-ghost use Rattle.asm_check.specs.Laws.{LeastIsOnly, LeastExists, RanksExist, NamesAreApart, ItemsAreDeclared, BodiesAreFit, NumberedBodiesAreFit, ScopesByMembers, TermsAreCounted, LimitsHold, NumberedDomainsAreFew, SignatureFits, ShapeIsSound, SignatureNumbers, NamesHaveNumbers, NamedInRange, TextsAreTold};
+ghost use Rattle.asm_check.specs.Laws.{LeastIsOnly, LeastExists, RanksExist, NamesAreApart, ItemsAreDeclared, BodiesAreFit, NumberedBodiesAreFit, TermFaultsAreFaults, TermsAreFit, ScopesByMembers, TermsAreCounted, LimitsHold, NumberedDomainsAreFew, SignatureFits, ShapeIsSound, SignatureNumbers, NamesHaveNumbers, NamedInRange, TextsAreTold};
 
 /// A specification has at most one least fault.
 pub fn least_is_only()
@@ -38,6 +38,18 @@ pub fn bodies_are_fit()
 /// In a well-formed specification so it is in each rule and each derived function, by its number.
 pub fn numbered_bodies_are_fit()
     ensures { NumberedBodiesAreFit }
+{}
+
+/// Each fault of a term that is the body of a derived function without parameters is one of the
+/// specification.
+pub fn term_faults_are_faults()
+    ensures { TermFaultsAreFaults }
+{}
+
+/// In a term without faults each name stands for what its use asks for, with as many arguments as
+/// that has.
+pub fn terms_are_fit()
+    ensures { TermsAreFit }
 {}
 
 /// Which names are bound decides whether a term or a rule is fit, and not their order.

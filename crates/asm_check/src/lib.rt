@@ -7,6 +7,7 @@ mod error;
 pub mod laws;
 mod least_fault;
 pub mod shared;
+mod term_checking;
 
 pub use checked::{Checked, NameNumber};
 pub use checking::check;

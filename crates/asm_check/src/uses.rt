@@ -5,4 +5,5 @@ pub mod declaration_uses;
 pub mod main_rule;
 pub mod roles;
 pub mod rules_with_result;
+pub mod term_faults;
 pub mod use_faults;

@@ -13,8 +13,9 @@ pub mod Views
 pub mod TokenFronts
 pub mod OneRefusal
 pub mod OneTree
-pub mod WholeSpecification
+pub mod WholeTexts
 pub mod Spellings
+pub mod TermSpellings
 pub mod EachText
 pub mod Examples
 pub mod ExactLemmas

@@ -15,7 +15,7 @@ use Rattle.asm_reader.specs.Refusals.{IsUnexpected, ExplainsTokens}
 use Rattle.asm_reader.proofs.ExactLemmas.ItemExact.{items_more, exact_specification}
 use Rattle.asm_reader.proofs.WiderLemmas.ItemWider.{wide_specification}
 use Rattle.asm_reader.proofs.WiderLemmas.WiderParts.{Includes}
-use Rattle.asm_reader.proofs.WholeSpecification.{ends_here, goes_past, explained}
+use Rattle.asm_reader.proofs.WholeTexts.{ends_here, goes_past, explained}
 use Rattle.asm_reader.proofs.OneTree.{one_tree}
 
 module _ (text : List ℕ) where
@@ -31,10 +31,10 @@ module _ (text : List ℕ) where
 
   module _ (ts : List Token) where
     pub spells_all : (s : source.Spec) (rest : List Token) → specification_at text max_nesting ts ≡ Ok (s, rest) → length rest < 1 → AreSpelling text ts s
-    spells_all = ends_here text items_more (within max_nesting) (wide max_nesting) (specification_at text max_nesting) (exact_specification text max_nesting) ts
+    spells_all = ends_here items_more (within max_nesting) (specification text) (wide max_nesting) (specification_at text max_nesting) (exact_specification text max_nesting) ts
 
     pub spells_less : (s : source.Spec) (rest : List Token) (default : Token) → specification_at text max_nesting ts ≡ Ok (s, rest) → 1 ≤ length rest → IsUnexpected text ts (get_or rest 0 default).start
-    spells_less = goes_past text items_more (within max_nesting) (wide max_nesting) (specification_at text max_nesting) (exact_specification text max_nesting) ts
+    spells_less = goes_past items_more (within max_nesting) (specification text) (wide max_nesting) (specification_at text max_nesting) (exact_specification text max_nesting) ts
 
     pub spells_none : (e : InputError ReadError) → ((reason : ReadError) → e ≡ Named reason → specification_at text max_nesting ts ≡ Err reason) → ExplainsTokens text ts e
-    spells_none = explained text items_more (within max_nesting) (wide max_nesting) (specification_at text max_nesting) (exact_specification text max_nesting) ts
+    spells_none = explained items_more (within max_nesting) (specification text) (wide max_nesting) (specification_at text max_nesting) (exact_specification text max_nesting) ts

@@ -5,7 +5,8 @@ use Rattle.std.specs.Prelude.{IsSome, option_and_then}
 use Rattle.asm_syntax.specs.declared.token.Token.{Token}
 use Rattle.asm_reader.specs.Kinds.{is_one_of}
 use Rattle.asm_reader.specs.Levels.{Depth, at_depth, closers, opens, less_one, after_token, depth_after}
-use Rattle.asm_reader.specs.Specification.{max_nesting, CanGoOn, IsWithinLevels}
+use Rattle.asm_reader.specs.Productions.{Production}
+use Rattle.asm_reader.specs.Specification.{max_nesting, CanGoOnBy, IsWithinLevels}
 use Rattle.asm_reader.proofs.ExactLemmas.Readers.{depth-append}
 
 -- ---- when a level too many opened, no later token helps
@@ -33,8 +34,8 @@ front_is_within front back h =
     let d : Depth = depth_after (at_depth max_nesting) front in
     some_left back d d.left refl (rw (depth-append (at_depth max_nesting) front back) at h)
 
-pub front_goes_on : (text : List ℕ) (front back : List Token) → CanGoOn text (front ++ back) → CanGoOn text front
-front_goes_on text front back g = (back ++ g.0, g.1, rw (append_assoc front back g.0) at g.2)
+pub front_goes_on : {A : Type 0} (P : Production A) (front back : List Token) → CanGoOnBy P (front ++ back) → CanGoOnBy P front
+front_goes_on P front back g = (back ++ g.0, g.1, rw (append_assoc front back g.0) at g.2)
 
 -- the front of `before`, the token `t` and more
 up_to : (before more whole : List Token) (t : Token) → whole ≡ before ++ t ∷ more → whole ≡ (before ++ t ∷ []) ++ more
@@ -43,8 +44,8 @@ up_to before more whole t e = e ∙ sym (append_assoc before (t ∷ []) more)
 pub is_within_up_to : (before more whole : List Token) (t : Token) → whole ≡ before ++ t ∷ more → IsWithinLevels whole → IsWithinLevels (before ++ t ∷ [])
 is_within_up_to before more whole t e h = front_is_within (before ++ t ∷ []) more (rw (up_to before more whole t e) at h)
 
-pub goes_on_up_to : (text : List ℕ) (before more whole : List Token) (t : Token) → whole ≡ before ++ t ∷ more → CanGoOn text whole → CanGoOn text (before ++ t ∷ [])
-goes_on_up_to text before more whole t e g = front_goes_on text (before ++ t ∷ []) more (rw (up_to before more whole t e) at g)
+pub goes_on_up_to : {A : Type 0} (P : Production A) (before more whole : List Token) (t : Token) → whole ≡ before ++ t ∷ more → CanGoOnBy P whole → CanGoOnBy P (before ++ t ∷ [])
+goes_on_up_to P before more whole t e g = front_goes_on P (before ++ t ∷ []) more (rw (up_to before more whole t e) at g)
 
 -- ---- two fronts of any list, each with the item after it
 

@@ -7,6 +7,7 @@ pub mod RuleGrammar
 pub mod Grammar
 pub mod Specification
 pub mod Refusals
+pub mod TermText
 pub mod ScriptLines
 pub mod ScriptText
 pub mod ScriptRefusals

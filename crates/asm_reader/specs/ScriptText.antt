@@ -2,6 +2,7 @@
 --     lines_of text                 the lines, each without its end
 --     line_of bytes                 what a line says, if it has the form: step or `*`, path and
 --                                   number
+--     line_said read                what a line that was read says
 --     said_in lines                 what the lines say, in their order
 --     script_in lines               the script of that
 --     IsScript text script          the text has no faulty line, and this is what it says
@@ -14,6 +15,7 @@ use Rattle.std.specs.Str.Lines.{strip_carriage_return}
 use Rattle.asm_syntax.specs.Tokens.{max_length}
 use Rattle.asm_syntax.specs.code.Fronts.{value_of}
 use Rattle.asm_reader.specs.ScriptLines.{SaidLine, ForStep, ForEvery, Script, script_of, is_line_of, is_line_at}
+use Rattle.asm_reader.specs.declared.script.ReadLine.{ReadLine}
 use Rattle.asm_reader.specs.declared.script.When.{When}
 use Rattle.asm_reader.specs.declared.script.When.TheVariants.{Step, EveryStep}
 use Rattle.asm_reader.specs.declared.script_error.ScriptError.{ScriptError}
@@ -56,6 +58,10 @@ when_of bytes = cond (bytes_eq bytes (codes "*")) (Some EveryStep) (step_with (n
 abbrev pub line_for : When → List ℕ → ℕ → SaidLine
 line_for (Step i) p k = ForStep (record { step = i; path = p; choice = k })
 line_for EveryStep p k = ForEvery (record { path = p; choice = k })
+
+-- of a line that was read
+abbrev pub line_said : ReadLine → SaidLine
+line_said read = line_for read.when read.path.items read.number
 
 abbrev pub line_with : Option When → Option (List ℕ) → Option ℕ → Option SaidLine
 line_with (Some w) (Some p) (Some k) = Some (line_for w p k)

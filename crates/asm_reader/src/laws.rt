@@ -9,6 +9,7 @@ ghost use Rattle.asm_reader.specs.OldGrammar.{StillSpells, StillIsSpecification}
 ghost use Rattle.asm_reader.specs.OldScripts.{StillIsScript};
 ghost use Rattle.asm_reader.specs.Specification.{IsSpecification};
 ghost use Rattle.asm_reader.specs.Refusals.{IsRefusal};
+ghost use Rattle.asm_reader.specs.TermText.{IsTermText, IsTermRefusal};
 ghost use Rattle.asm_reader.specs.code.ExactLines.{exactly};
 ghost use Rattle.asm_reader.specs.ScriptLines.{Line, EveryLine, Script, is_line_of, pick};
 ghost use Rattle.asm_reader.specs.ScriptText.{lines_of, line_of, is_skipped, IsScript, IsScriptRefusal};
@@ -53,6 +54,37 @@ pub fn no_tree_beside_a_refusal()
 /// A text has one refusal at most.
 pub fn one_refusal()
     ensures { (text : List ℕ) (e f : ReadError) → IsRefusal text e → IsRefusal text f → e ≡ f }
+{
+    one_list_of_tokens();
+    no_tokens_beside_a_fault();
+    one_fault();
+}
+
+/// A text spells one term at most.
+pub fn one_term()
+    ensures { (text : List ℕ) (s t : source.Term) → IsTermText text s → IsTermText text t → s ≡ t }
+{
+    one_list_of_tokens();
+}
+
+/// Each text spells a term or has a refusal as one.
+pub fn term_or_a_refusal()
+    ensures { (text : List ℕ) → ((t : source.Term) × IsTermText text t) ⊎ ((e : ReadError) × IsTermRefusal text e) }
+{
+    tokens_or_a_fault();
+}
+
+/// A text that spells a term has no refusal as one.
+pub fn no_term_beside_a_refusal()
+    ensures { (text : List ℕ) (t : source.Term) (e : ReadError) → IsTermText text t → ¬ IsTermRefusal text e }
+{
+    one_list_of_tokens();
+    no_tokens_beside_a_fault();
+}
+
+/// A text has one refusal as a term at most.
+pub fn one_term_refusal()
+    ensures { (text : List ℕ) (e f : ReadError) → IsTermRefusal text e → IsTermRefusal text f → e ≡ f }
 {
     one_list_of_tokens();
     no_tokens_beside_a_fault();

@@ -2,8 +2,8 @@
 ghost use Rattle.std.specs.Prelude.{◌≡◌, ◌≤◌, ◌<◌, ℕ, true, not, cond, nat_eq, is_some, get_or, length, ◌+◌, [], None, Some, IfOk};
 ghost use Rattle.asm_reader.specs.code.PathNumbers.{AreShort, IsNext, HasPathNumber, Says, entry_at, is_pair, number_of_path};
 ghost use Rattle.asm_reader.specs.ScriptLines as lines;
-ghost use Rattle.asm_reader.specs.ScriptText.{has_line_of};
-ghost use Rattle.asm_reader.specs.code.LinesSaid.{line_said, then_line};
+ghost use Rattle.asm_reader.specs.ScriptText.{has_line_of, line_said};
+ghost use Rattle.asm_reader.specs.code.LinesSaid.{then_line};
 
 use crate::script::{ReadLine, When};
 use std::alloc::{AllocError, Global};

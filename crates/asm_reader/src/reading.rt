@@ -19,7 +19,7 @@ use asm_syntax::{InputError, Token, one_list_of_tokens, tokens};
 use std::alloc::Global;
 
 /// The most levels that may open.
-const MAX_NESTING: usize = 64;
+pub(crate) const MAX_NESTING: usize = 64;
 
 /// The specification that the tokens of the text spell.
 fn read_tokens<'a>(

@@ -13,7 +13,7 @@ use std::marker::Model;
 
 /// The steps for which a line holds.
 #[derive(Clone, Copy)]
-pub(crate) enum When {
+pub enum When {
     /// The step with this number.
     Step(u32),
     /// Every step for which no other line of the same path holds.
@@ -22,10 +22,13 @@ pub(crate) enum When {
 
 /// What a line says.
 #[derive(Drop)]
-pub(crate) struct ReadLine {
-    pub(crate) when: When,
-    pub(crate) path: Vec<u32>,
-    pub(crate) number: u32,
+pub struct ReadLine {
+    /// The steps for which it holds.
+    pub when: When,
+    /// The path of the choice.
+    pub path: Vec<u32>,
+    /// The number of the candidate that is taken.
+    pub number: u32,
 }
 
 /// Says which candidate is taken at a step and a path. No two of its lines have one step and path,

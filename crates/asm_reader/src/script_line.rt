@@ -4,7 +4,7 @@ ghost use Rattle.std.specs.List.{slice_split};
 ghost use Rattle.std.specs.Option.{option_map};
 ghost use Rattle.std.specs.Str.Lines.{strip_carriage_return};
 ghost use Rattle.asm_reader.specs.ScriptText as spec;
-ghost use Rattle.asm_reader.specs.code.LinesSaid.{line_said};
+ghost use Rattle.asm_reader.specs.ScriptText.{line_said};
 
 use crate::script::{ReadLine, When};
 use std::alloc::{AllocError, Global};
@@ -13,7 +13,7 @@ use std::alloc::{AllocError, Global};
 const MAX_DIGITS: usize = 9;
 
 /// The line without the carriage return at its end, if it has one.
-pub(crate) fn without_return(line: &[u8]) -> &[u8]
+pub fn without_return(line: &[u8]) -> &[u8]
     ensures { result.now ≡ strip_carriage_return line.now }
 {
     match line {
@@ -23,14 +23,14 @@ pub(crate) fn without_return(line: &[u8]) -> &[u8]
 }
 
 /// Whether the line says nothing.
-pub(crate) fn is_skipped(line: &[u8]) -> bool
+pub fn is_skipped(line: &[u8]) -> bool
     ensures { result ≡ spec.is_skipped line.now }
 {
     matches!(line, [] | [b'#', ..])
 }
 
 /// What is between the bytes that are this one.
-pub(crate) fn parts(alloc: Global, text: &[u8], at: u8) -> Result<Vec<&[u8]>, AllocError>
+pub fn parts(alloc: Global, text: &[u8], at: u8) -> Result<Vec<&[u8]>, AllocError>
     ensures { IfOk result (λ parts. map (λ p. p.now) parts.items ≡ slice_split (λ b. b == at) text.now) }
 {
     text.split(|b| *b == at).collect(alloc)
@@ -84,7 +84,7 @@ fn path(alloc: Global, text: &[u8]) -> Result<Option<Vec<u32>>, AllocError>
 }
 
 /// What the line says, if it has the form.
-pub(crate) fn line_said(alloc: Global, line: &[u8]) -> Result<Option<ReadLine>, AllocError>
+pub fn line_said(alloc: Global, line: &[u8]) -> Result<Option<ReadLine>, AllocError>
     ensures { IfOk result (λ c. option_map line_said c ≡ spec.line_of line.now) }
 {
     let fields = parts(alloc, line, b' ')?;

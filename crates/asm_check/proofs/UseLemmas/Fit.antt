@@ -19,11 +19,11 @@ not_true : (b : Bool) → ¬ (b ≡ true) → b ≡ false
 not_true true h = absurd (h refl)
 not_true false h = refl
 
-not_false : (b : Bool) → ¬ (b ≡ false) → b ≡ true
+pub not_false : (b : Bool) → ¬ (b ≡ false) → b ≡ true
 not_false true h = refl
 not_false false h = absurd (h refl)
 
-same_number : (m n : ℕ) → ¬ (m ≢ n) → m ≡ n
+pub same_number : (m n : ℕ) → ¬ (m ≢ n) → m ≡ n
 same_number m n h =
     (unsigned_Decides m n).0 (not_false (nat_eq m n) (λ e. h (λ same. false≢true (sym e ∙ (unsigned_Decides m n).1 same))))
 
@@ -68,7 +68,7 @@ module _ (spec : Spec) where
   -- ---- terms
 
   mutual
-    fit_term : (t : Term) (bound : List Text) → AreGood (uses_of_term t bound) → IsFitTerm spec t bound
+    pub fit_term : (t : Term) (bound : List Text) → AreGood (uses_of_term t bound) → IsFitTerm spec t bound
     fit_term (Constant v) bound h = tt
     fit_term (Named x ts) bound h = (first InTerm x (term_count ts) bound (uses_of_terms ts bound) h, fit_terms ts bound (tail _ (uses_of_terms ts bound) h))
     fit_term (Chain t links) bound h =

@@ -83,7 +83,7 @@ fn uses_of_item<'a>(alloc: Global, item: &'a Item) -> Result<Vec<Use<'a>>, Alloc
 }
 
 /// The uses in the body of a derived function.
-fn uses_of_body<'a>(
+pub(crate) fn uses_of_body<'a>(
     alloc: Global,
     parameters: &'a [Name],
     body: &'a Term,

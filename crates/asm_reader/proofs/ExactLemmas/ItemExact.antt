@@ -254,7 +254,7 @@ module _ (text : List ℕ) where
     abbrev pub rule : Production source.Rule
     rule = rule_within text (suc n)
 
-    exact_term : IsExact d d term_more term (any_term text) (term_at text n)
+    pub exact_term : IsExact d d term_more term (any_term text) (term_at text n)
     exact_term = subst (λ j. IsExact d d term_more (term_within text (suc j)) (any_term text) (term_at text n)) none_more (exact_any_term text n 0 false)
       where
         none_more : n + 0 ≡ n

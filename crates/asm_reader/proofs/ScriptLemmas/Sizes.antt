@@ -8,8 +8,8 @@ use Rattle.asm_reader.specs.declared.script.ReadLine.{ReadLine}
 use Rattle.asm_reader.specs.declared.script.When.{When}
 use Rattle.asm_reader.specs.declared.script.When.TheVariants.{Step, EveryStep}
 use Rattle.asm_reader.specs.ScriptLines.{SaidLine, ForStep, ForEvery}
-use Rattle.asm_reader.specs.ScriptText.{number_of, numbers_of, path_of, when_of, line_for, line_with, line_of_fields, line_of}
-use Rattle.asm_reader.specs.code.LinesSaid.{line_said, bytes_in}
+use Rattle.asm_reader.specs.ScriptText.{number_of, numbers_of, path_of, when_of, line_for, line_with, line_of_fields, line_of, line_said}
+use Rattle.asm_reader.specs.code.LinesSaid.{bytes_in}
 use Rattle.asm_reader.proofs.ScriptLemmas.PathParts.{after_number}
 
 -- ---- what a text is split into

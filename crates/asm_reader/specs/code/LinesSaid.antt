@@ -1,14 +1,8 @@
--- Bridge to the code. What is read from a line of a script.
---     line_said c               what the line says
+-- Bridge to the code. What is read from lines of a script.
 --     then_line script line     the script with one more line, after those that it has
 --     bytes_in lines            the number of bytes that the lines have, each with one at its end
 use Rattle.std.specs.Prelude.{ℕ, ◌+◌, List, [], ◌∷◌, ◌++◌, length}
-use Rattle.asm_reader.specs.declared.script.ReadLine.{ReadLine}
 use Rattle.asm_reader.specs.ScriptLines.{SaidLine, ForStep, ForEvery, Script}
-use Rattle.asm_reader.specs.ScriptText.{line_for}
-
-abbrev pub line_said : ReadLine → SaidLine
-line_said c = line_for c.when c.path.items c.number
 
 abbrev pub then_line : Script → SaidLine → Script
 then_line script (ForStep line) = record { exact = script.exact ++ line ∷ []; every = script.every }

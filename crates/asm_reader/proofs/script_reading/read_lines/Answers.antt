@@ -1,8 +1,7 @@
 use Rattle.std.proofs.Common.{arith, length, ap, sym, subst, refl, ◌∙◌, not, take}
 use Rattle.std.specs.Option.{option_map}
 use Rattle.asm_reader.specs.code.PathNumbers.{Says}
-use Rattle.asm_reader.specs.ScriptText.{script_in}
-use Rattle.asm_reader.specs.code.LinesSaid.{line_said}
+use Rattle.asm_reader.specs.ScriptText.{line_said, script_in}
 use Rattle.asm_reader.proofs.ScriptLemmas.FirstFaults.{without_returns, no_lines_faulty, skipped_more, skipped_says, bad_line, repeated_line, taken_more, taken_says}
 use Rattle.asm_reader.proofs.ScriptLemmas.Sizes.{line_size, next_bytes}
 use Rattle.asm_reader.proofs.script_reading.read_lines.Goals as goal

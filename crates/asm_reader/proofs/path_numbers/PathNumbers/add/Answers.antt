@@ -2,8 +2,8 @@ use Rattle.std.proofs.Common.{◌≡◌, true, Some, not, ap, sym, subst, ◌∙
 use Rattle.std.proofs.lemmas.Result.{IfOk-weaker}
 use Rattle.asm_reader.specs.code.PathNumbers.{HoldsScript, number_of_path}
 use Rattle.asm_reader.specs.ScriptLines.{Line, EveryLine}
-use Rattle.asm_reader.specs.ScriptText.{has_line_of, line_for}
-use Rattle.asm_reader.specs.code.LinesSaid.{line_said, then_line}
+use Rattle.asm_reader.specs.ScriptText.{has_line_of, line_for, line_said}
+use Rattle.asm_reader.specs.code.LinesSaid.{then_line}
 use Rattle.asm_reader.proofs.ScriptLemmas.FoundLines.{says_exact, says_every, exact_taken, every_taken}
 use Rattle.asm_reader.proofs.path_numbers.PathNumbers.add.Goals as goal
 

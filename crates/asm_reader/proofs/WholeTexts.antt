@@ -1,4 +1,4 @@
--- Free. An exact reader of specifications, and then the end of the tokens.
+-- Free. An exact reader, and then the end of the tokens.
 use Rattle.std.proofs.Common.{◌≡◌, ◌⊎◌, ℕ, ◌<◌, ◌≤◌, List, [], ◌∷◌, ◌++◌, length, get_or, Ok, Err, refl, sym, ap, ◌∙◌, append_assoc, arith, inl, inr}
 use Rattle.std.specs.Prelude.{IsSome, Option, None}
 use Rattle.std.proofs.lemmas.List.{append-nil, length-append}
@@ -6,14 +6,12 @@ use Rattle.asm_syntax.specs.declared.input_error.InputError.{InputError}
 use Rattle.asm_syntax.specs.declared.input_error.InputError.TheVariants.{Memory, Named}
 use Rattle.asm_syntax.specs.declared.token.Kind.{Kind}
 use Rattle.asm_syntax.specs.declared.token.Token.{Token}
-use Rattle.asm_syntax.specs.SourceTree as source
 use Rattle.asm_reader.specs.declared.error.ReadError.{ReadError}
 use Rattle.asm_reader.specs.Levels.{Depth, at_depth, depth_after}
 use Rattle.asm_reader.specs.Productions.{Production}
 use Rattle.asm_reader.specs.code.Steps.{Reader, refusal}
-use Rattle.asm_reader.specs.Grammar.{specification}
-use Rattle.asm_reader.specs.Specification.{max_nesting, CanGoOn, IsWithinLevels, AreSpelling}
-use Rattle.asm_reader.specs.Refusals.{IsUnexpected, IsTooDeep, IsRefusalOfTokens, ExplainsTokens}
+use Rattle.asm_reader.specs.Specification.{max_nesting, CanGoOnBy, IsWithinLevels, AreSpellingBy}
+use Rattle.asm_reader.specs.Refusals.{IsUnexpectedBy, IsTooDeepBy, IsRefusalOfTokensBy, ExplainsTokensBy}
 use Rattle.asm_reader.proofs.Lists.{Agrees-self}
 use Rattle.asm_reader.proofs.ExactLemmas.Readers.{Takes, Stops, Sinks, IsExact, depth-append}
 use Rattle.asm_reader.proofs.WiderLemmas.WiderParts.{Includes}
@@ -24,26 +22,23 @@ no_level o e h = absurd (cc (e, h))
 nothing_behind : (front us : List Token) (t : Token) → ¬ (front ++ t ∷ us ≡ front)
 nothing_behind front us t e = omega (arith, ap length e, length-append front (t ∷ us))
 
--- P are specifications in which enough levels may open.
-module _ (text : List ℕ) (more : List Kind) (P : Production source.Spec) (wide : Includes P (specification text)) where
+-- In what P makes enough levels may open; N makes it at any depth.
+module _ {A : Type 0} (more : List Kind) (P N : Production A) (wide : Includes P N) where
   abbrev top : Depth
   top = at_depth max_nesting
 
-  abbrev N : Production source.Spec
-  N = specification text
-
-  goes_on : (before : List Token) → (us : List Token) × (s : source.Spec) × P (before ++ us) s → CanGoOn text before
+  goes_on : (before : List Token) → (us : List Token) × (x : A) × P (before ++ us) x → CanGoOnBy N before
   goes_on before g = (g.0, g.1, wide (before ++ g.0) g.1 g.2)
 
   is_within : (ts : List Token) → depth_after top ts ≡ top → IsWithinLevels ts
   is_within ts e = rw e refl
 
-  all_taken : (ts : List Token) (s : source.Spec) → Takes top top more P N ts s [] → AreSpelling text ts s
+  all_taken : (ts : List Token) (s : A) → Takes top top more P N ts s [] → AreSpellingBy N ts s
   all_taken ts s t =
       let whole : ts ≡ t.front = t.parts ∙ append-nil t.front in
       (rw whole (wide t.front s t.made), rw whole (is_within t.front t.fits))
 
-  left_over : (ts : List Token) (s : source.Spec) (t : Token) (rest : List Token) → Takes top top more P N ts s (t ∷ rest) → IsUnexpected text ts t.start
+  left_over : (ts : List Token) (s : A) (t : Token) (rest : List Token) → Takes top top more P N ts s (t ∷ rest) → IsUnexpectedBy N ts t.start
   left_over ts s t rest u = record {
     before = u.front;
     bad = t;
@@ -59,7 +54,7 @@ module _ (text : List ℕ) (more : List Kind) (P : Production source.Spec) (wide
     levels = is_within u.front u.fits;
   }
 
-  stopped : (ts : List Token) (e : ReadError) (s : Stops top more P N ts e) (rest : List Token) → s.rest ≡ rest → IsRefusalOfTokens text ts (refusal rest)
+  stopped : (ts : List Token) (e : ReadError) (s : Stops top more P N ts e) (rest : List Token) → s.rest ≡ rest → IsRefusalOfTokensBy N ts (refusal rest)
   stopped ts e s [] d =
       let whole : ts ≡ s.before = s.parts ∙ ap (λ (w : List Token). s.before ++ w) d ∙ append-nil s.before in
       record {
@@ -80,7 +75,7 @@ module _ (text : List ℕ) (more : List Kind) (P : Production source.Spec) (wide
     levels = s.fits;
   }
 
-  sunk : (ts : List Token) (e : ReadError) (s : Sinks top P ts e) → IsTooDeep text ts s.opener.start
+  sunk : (ts : List Token) (e : ReadError) (s : Sinks top P ts e) → IsTooDeepBy N ts s.opener.start
   sunk ts e s = record {
     before = s.before;
     opener = s.opener;
@@ -92,22 +87,22 @@ module _ (text : List ℕ) (more : List Kind) (P : Production source.Spec) (wide
     opens = λ h. no_level (depth_after top (s.before ++ s.opener ∷ [])).left (ap (λ (v : Depth). v.left) (depth-append top s.before (s.opener ∷ [])) ∙ s.sinks) h;
   }
 
-  refused : (ts : List Token) (e : ReadError) → Stops top more P N ts e ⊎ Sinks top P ts e → IsRefusalOfTokens text ts e
+  refused : (ts : List Token) (e : ReadError) → Stops top more P N ts e ⊎ Sinks top P ts e → IsRefusalOfTokensBy N ts e
   refused ts e (inl s) = rw s.error (stopped ts e s s.rest refl)
   refused ts e (inr s) = rw s.error (sunk ts e s)
 
-  module _ (f : Reader source.Spec) (exact : IsExact top top more P N f) (ts : List Token) where
+  module _ (f : Reader A) (exact : IsExact top top more P N f) (ts : List Token) where
     -- what is read up to the end
-    pub ends_here : (s : source.Spec) (rest : List Token) → f ts ≡ Ok (s, rest) → length rest < 1 → AreSpelling text ts s
+    pub ends_here : (s : A) (rest : List Token) → f ts ≡ Ok (s, rest) → length rest < 1 → AreSpellingBy N ts s
     ends_here s [] e l = all_taken ts s (rw e at (exact ts))
     ends_here s (t ∷ rest) e l = absurd (omega arith)
 
     -- what is read, and more after it
-    pub goes_past : (s : source.Spec) (rest : List Token) (default : Token) → f ts ≡ Ok (s, rest) → 1 ≤ length rest → IsUnexpected text ts (get_or rest 0 default).start
+    pub goes_past : (s : A) (rest : List Token) (default : Token) → f ts ≡ Ok (s, rest) → 1 ≤ length rest → IsUnexpectedBy N ts (get_or rest 0 default).start
     goes_past s [] default e l = absurd (omega arith)
     goes_past s (t ∷ rest) default e l = left_over ts s t rest (rw e at (exact ts))
 
     -- what isn't read, when the reason is told
-    pub explained : (e : InputError ReadError) → ((reason : ReadError) → e ≡ Named reason → f ts ≡ Err reason) → ExplainsTokens text ts e
+    pub explained : (e : InputError ReadError) → ((reason : ReadError) → e ≡ Named reason → f ts ≡ Err reason) → ExplainsTokensBy N ts e
     explained Memory h = tt
     explained (Named e) h = refused ts e (rw (h e refl) at (exact ts))
