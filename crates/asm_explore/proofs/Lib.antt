@@ -1,5 +1,4 @@
 pub mod Elements
-pub mod FullFindings
 pub mod LookedAhead
 pub mod SearchEnds
 pub mod SettledEnds

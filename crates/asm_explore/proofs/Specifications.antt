@@ -89,8 +89,7 @@ module _ (specification : Specification) (turns : â„•) (crowds throngs : State â
     earliest = earliest_more right rests within bad.fault bad.step h.earliest;
   }
   claims_more right rests within states finding.WrongFirst h = h
-  claims_more right rests within states (finding.TooManyStates safe) h = (h.0, safe_more right rests within safe h.1, h.2, h.3)
-  claims_more right rests within states finding.StatesRepeated h = h
+  claims_more right rests within states (finding.TooManyStates safe) h = (h.0, safe_more right rests within safe h.1, h.2)
   claims_more right rests within states (finding.TooManyOutcomes safe crowd) h = (safe_more right rests within safe h.0, (h.1.0, h.1.1, f h.1.0 crowd h.1.2))
   claims_more right rests within states (finding.NoMemory safe) h = safe_more right rests within safe h
   claims_more right rests within states (finding.Unwritten unwritten) h = record {
@@ -110,6 +109,7 @@ module _ (specification : Specification) (turns : â„•) (crowds throngs : State â
       (record {
         found = claims_more right rests within h.reached answer.finding h.found;
         reached = h.reached;
+        different = h.different;
         count = h.count;
         reach = h.reach;
         looked = h.looked;

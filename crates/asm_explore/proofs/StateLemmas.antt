@@ -2,10 +2,11 @@
 pub mod AddedNodes
 pub mod Batches
 pub mod Bytes
-pub mod DifferentStates
+pub mod IndexedNodes
 pub mod LastStates
 pub mod LookedStates
 pub mod MoreNodes
+pub mod OwnStates
 pub mod PackedNodes
 pub mod QuietNodes
 pub mod RunsAlongChoices

@@ -18,7 +18,7 @@
 --     IsQuietRun           the run of `rest.steps` steps under the script comes to a quiet state,
 --                          and no shorter one does; its lines are those of the choices of this run
 --     IsExplorationResult  what the whole result says
-use Rattle.std.specs.Prelude.{◌≡◌, ◌≢◌, ◌≤◌, ◌<◌, ◌⊎◌, ◌-◌, ℕ, suc, Bool, true, false, List, length, take, Option, Some, None, IfSome}
+use Rattle.std.specs.Prelude.{◌≡◌, ◌≢◌, ◌≤◌, ◌<◌, ◌⊎◌, ◌-◌, ℕ, suc, Bool, true, false, List, ◌∷◌, length, take, Option, Some, None, IfSome}
 use Rattle.std.specs.String.{string_bytes}
 use Rattle.asm_state.specs.Location.{State}
 use Rattle.asm_reader.specs.code.ExactLines.{exactly}
@@ -69,7 +69,6 @@ module _ (specification : Specification) (turns : ℕ) (within : State → Bool)
   IsLookedThrough looked (finding.BadStep bad) = HoldsBefore specification turns within looked (bad.step - 1)
   IsLookedThrough looked finding.WrongFirst = Unit {0}
   IsLookedThrough looked (finding.TooManyStates safe) = HoldsBefore specification turns within looked (known_to safe)
-  IsLookedThrough looked finding.StatesRepeated = Unit {0}
   IsLookedThrough looked (finding.TooManyOutcomes safe crowd) = HoldsBefore specification turns within looked (known_to safe)
   IsLookedThrough looked (finding.NoMemory safe) = HoldsBefore specification turns within looked (known_to safe)
   IsLookedThrough looked (finding.Unwritten unwritten) = HoldsBefore specification turns within looked (unwritten.step - 1)
@@ -124,22 +123,24 @@ module _ (specification : Specification) (turns : ℕ) (crowds : State → RuleO
     pub long : AreTooLong (chosen_lines specification turns script (steps_to unwritten.fault unwritten.step))
     pub earliest : IsEarliest unwritten.fault unwritten.step
 
-  -- of too many outcomes there is a state whose step has them
+  -- of too many states there is one more than were reached; of too many outcomes there is a state
+  -- whose step has them
   abbrev pub Claims : (reached : List State) → Finding → Type 0
   Claims reached finding.Closed = IsSafe specification turns within (λ A. right A ≡ true) × HoldsAlways specification turns within IsAlive
   Claims reached (finding.SafeTo depth) = (depth ≡ steps) × IsSafeTo depth
   Claims reached (finding.BadStep bad) = IsBadRun bad
   Claims reached finding.WrongFirst = right specification.initial ≡ false
   Claims reached (finding.TooManyStates safe) =
-      (limit ≤ length reached) × IsSafeIf safe × AreDifferent reached × Each (IsReachedBy specification turns within (suc (beyond safe))) reached
-  Claims reached finding.StatesRepeated = ¬ (AreDifferent reached)
+      (limit ≤ length reached) × IsSafeIf safe
+      × ((more : State) × AreDifferent (more ∷ reached) × Each (IsReachedBy specification turns within (suc (beyond safe))) (more ∷ reached))
   Claims reached (finding.TooManyOutcomes safe crowd) = IsSafeIf safe × ((A : State) × IsReachedBy specification turns within (beyond safe) A × crowds A crowd)
   Claims reached (finding.NoMemory safe) = IsSafeIf safe
   Claims reached (finding.Unwritten unwritten) = IsUnwritten unwritten
 
   pub record IsExplorationResult (answer : ExplorationResult) : Type 0 where
-    -- `answer.states` states, each by a run of at most `answer.depth` steps
+    -- `answer.states` different states, each by a run of at most `answer.depth` steps
     pub reached : List State
+    pub different : AreDifferent reached
     pub count : length reached ≡ answer.states
     pub reach : Each (IsReachedBy specification turns within answer.depth) reached
     pub found : Claims reached answer.finding

@@ -11,9 +11,9 @@ pub mod ChoicesMade
 pub mod ChoicesMadeSoFar
 pub mod ChooseNothing
 pub mod Deadlocks
-pub mod DifferentStates
 pub mod ExploredRules
 pub mod FaultMarks
+pub mod IndexedNodes
 pub mod ListElements
 pub mod ListedRules
 pub mod LookedStates
@@ -28,6 +28,7 @@ pub mod ScriptTo
 pub mod SearchEnds
 pub mod SettledEnds
 pub mod Sequences
+pub mod StateHashes
 pub mod StepLeads
 pub mod StepOutcomes
 pub mod StepsAhead

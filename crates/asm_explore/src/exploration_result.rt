@@ -46,9 +46,6 @@ pub enum Finding {
     WrongFirst,
     /// There are more states than the limit says. It is safe up to that many steps, if any.
     TooManyStates(Option<u32>),
-    /// There seemed to be more states than the limit says, but one was reached twice: the search
-    /// didn't find it again, which is an error of this program.
-    StatesRepeated,
     /// There are more outcomes of a step than the limit says, of the rule at a path. It is safe up to
     /// that many steps, if any.
     TooManyOutcomes {

@@ -24,7 +24,6 @@ use crate::search_result::{BadStep, SearchEnd, SearchResult};
 use crate::settled::before;
 use crate::states::nodes::Nodes;
 use crate::states::trail::trail_to;
-use crate::too_many_states::too_many_states;
 use asm_state::state::State;
 use std::alloc::{AllocError, Global};
 
@@ -179,9 +178,7 @@ pub fn explore_machine<M: Machine, W: Watch<Progress>>(
         SearchEnd::Closed => Finding::Closed,
         SearchEnd::AtLimit => Finding::SafeTo(whole),
         SearchEnd::BadStep(bad) => bad_run(alloc, machine, initial, &nodes, bad, steps, whole)?,
-        SearchEnd::TooManyStates => {
-            too_many_states(alloc, machine.signature(), &nodes, initial, safe)
-        }
+        SearchEnd::TooManyStates => Finding::TooManyStates(safe),
         SearchEnd::TooManyOutcomes(crowd) => Finding::TooManyOutcomes { safe, crowd },
         SearchEnd::Memory => Finding::NoMemory(safe),
     };

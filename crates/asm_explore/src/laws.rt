@@ -21,12 +21,14 @@ ghost use Rattle.asm_explore.specs.declared.outcomes.listed_outcome.Choice.{Choi
 ghost use Rattle.asm_explore.specs.ExplorationResults.{IsExplorationResult};
 ghost use Rattle.asm_explore.specs.code.ListElements.{Each};
 ghost use Rattle.asm_explore.specs.declared.outcomes.outcomes_error.RuleOverLimit.{RuleOverLimit};
-ghost use Rattle.asm_explore.specs.code.ChoicesMade.{made_in};
+ghost use Rattle.asm_explore.specs.code.ChoicesMade.{made, made_in};
 ghost use Rattle.asm_explore.specs.code.MainRule.{IsMainOverLimit};
 ghost use Rattle.asm_explore.specs.code.StepOutcomes.{IsOverLimitOf};
 ghost use Rattle.asm_explore.specs.code.ChoicePaths.{HaveOwnPaths};
 ghost use Rattle.asm_explore.specs.code.ChoiceLaws.{ChoiceLaws};
+ghost use Rattle.asm_explore.specs.ChoicePoints.{choices_of};
 ghost use Rattle.asm_explore.specs.ChoicesMadeLaws.{MakingLaws};
+ghost use Rattle.asm_explore.specs.code.AskedRules.{asks};
 ghost use Rattle.asm_explore.specs.code.ReachedStates.{MakesAll};
 ghost use Rattle.asm_explore.specs.code.ScriptTo.{lines_of, needed};
 ghost use Rattle.asm_explore.specs.declared.scripts.script_line.Zeros.{Zeros};
@@ -81,6 +83,12 @@ pub fn same_rule_result()
 pub fn making_laws()
     ensures { (shape : Shape) (turns : ℕ) (chosen : Path → ℕ) (P : RuleCode) (rs : List Reading) (ls : Locations) (A : State) (p : Path) →
         MakingLaws shape turns chosen P rs ls A p }
+{}
+
+/// The choices that a rule is asked for are those that it makes.
+pub fn asking_law()
+    ensures { (shape : Shape) (turns : ℕ) (chosen : Path → ℕ) (P : RuleCode) (rs : List Reading) (ls : Locations) (A : State) (p : Path) →
+        choices_of (asks shape turns chosen P rs ls A p) ≡ made shape turns chosen P rs ls A p }
 {}
 
 /// If the code of the main rule has too many outcomes, the main rule has.

@@ -21,7 +21,6 @@ pub mod search_result;
 mod settled;
 pub mod specification;
 pub mod step_ahead;
-mod too_many_states;
 pub mod updates;
 
 pub use choices::choice_point::ChoicePoint;

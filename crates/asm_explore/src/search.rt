@@ -18,11 +18,13 @@ ghost use Rattle.asm_explore.specs.code.PackedNodes.{Node};
 ghost use Rattle.asm_explore.specs.code.SearchEnds.{IfBad, IfOverLimit, IsDone};
 ghost use Rattle.asm_explore.specs.code.OutcomeLists.{Each, Shows, HaveChoices, AreCounted, IsCounted};
 ghost use Rattle.asm_explore.specs.code.ChoicePaths.{HaveOwnPaths};
-ghost use Rattle.asm_explore.specs.code.ReachedStates.{AreInside, AtNode, Known, IsNear, IsGood, FollowsStep, IsLinked, IsLooked, IsOutcome, IsBadStep, IsStopped, LeadsTo, Rises, GoesWrongSo, state_at};
+ghost use Rattle.asm_explore.specs.code.ReachedStates.{AreInside, AtNode, Known, IsNear, IsGood, FollowsStep, IsLinked, IsLooked, IsOutcome, IsBadStep, IsStopped, LeadsTo, Rises, GoesWrongSo, IsOverfull, state_at};
 ghost use Rattle.asm_explore.specs.code.QuietStates.{IsFirstQuiet, IsRested};
 ghost use Rattle.asm_explore.specs.Search.{LeadsOn, IsQuiet, IsDeadlock, IsSafeUpTo, IsSafe, HoldsBefore, HoldsAlways};
 ghost use Rattle.asm_explore.specs.ExplorationResults.{IsAliveOrCrowded, IsSafeIf, beyond, known_to};
 ghost use Rattle.asm_explore.specs.code.LookedStates.{LooksThrough};
+ghost use Rattle.asm_explore.specs.code.IndexedNodes.{HaveOwnStates};
+ghost use Rattle.asm_explore.specs.code.StateHashes.{hash_of_contents};
 ghost use Rattle.asm_explore.specs.code.StepOutcomes.{IsOverLimitOf, IsStep};
 
 use crate::fault::Fault;
@@ -34,9 +36,11 @@ use crate::search_error::{SearchError, halted};
 use crate::search_result::{BadStep, SearchEnd, SearchResult, SearchSoFar, cut_off};
 use crate::settled::settle;
 use crate::states::batch::next_batch;
+use crate::states::counts::Counts;
 use crate::states::deadlocks::deadlocks_at;
-use crate::states::index::{Index, hash_of};
-use crate::states::lookup::{is_reached, is_there, note_last};
+use crate::states::index::hash_of;
+use crate::states::indexed_nodes::IndexedNodes;
+use crate::states::lookup::Link;
 use crate::states::nodes::Nodes;
 use crate::states::quiet::{is_quiet, rest};
 use crate::step_ahead::StepAhead;
@@ -68,11 +72,19 @@ struct Search<'m, M: Machine> {
     ghost in_range: { (steps < 2 ^ 32) × (limit < 2 ^ 32) },
 }
 
-/// What a search has reached so far: the nodes, and where each state is among them.
+/// What a search has reached so far: the nodes, and what was counted.
 #[derive(Drop)]
 struct Reached {
+    nodes: IndexedNodes,
+    counts: Counts,
+}
+
+/// What a search has looked at.
+#[derive(Drop)]
+struct Looked {
     nodes: Nodes,
-    index: Index,
+    counts: Counts,
+    so_far: SearchSoFar,
 }
 
 /// An outcome that goes wrong.
@@ -97,7 +109,7 @@ fn choices_of(
 }
 
 /// The end of a search whose nodes are all expanded.
-fn ended_all(nodes: &Nodes, steps: u32) -> SearchEnd
+fn ended_all(nodes: &IndexedNodes, steps: u32) -> SearchEnd
     requires { Rises nodes.now }
     ensures closed { result ≡ Closed → Each (λ n. n.depth < steps) nodes.now }
     ensures done { IsDone result }
@@ -111,7 +123,7 @@ fn ended_all(nodes: &Nodes, steps: u32) -> SearchEnd
 }
 
 /// How far the search is, when `done` nodes are done with.
-fn progress(nodes: &Nodes, done: usize) -> Progress
+fn progress(nodes: &IndexedNodes, done: usize) -> Progress
     requires { done ≤ length nodes.now }
 {
     let depth = match done {
@@ -140,13 +152,14 @@ impl<'m, M: Machine> Search<'m, M> {
         requires machine { M.is_sound self.now.machine.now }
         requires ready { CanAdd (M.shape self.now.machine.now) (M.right self.now.machine.now) from below self.now.limit reached.old.nodes }
         requires state { IsStateOf (M.shape self.now.machine.now) state.now }
+        requires hash { hash ≡ hash_of_contents state.now }
         requires leads { LeadsTo (M.shape self.now.machine.now) (M.specification self.now.machine.now) (M.turns self.now.machine.now) reached.old.nodes from below (state_of (M.shape self.now.machine.now) state.now) }
         ensures adds { AddsNodes (M.shape self.now.machine.now) (M.specification self.now.machine.now) (M.turns self.now.machine.now) (M.right self.now.machine.now) from below self.now.limit reached.old.nodes reached.new.nodes result }
         ensures known { IfOk result (λ fine. IsTrue fine → Known (M.shape self.now.machine.now) reached.new.nodes below (state_of (M.shape self.now.machine.now) state.now)) }
         ensures wrong { IfOk result (λ fine. fine ≡ false → (M.right self.now.machine.now) (state_of (M.shape self.now.machine.now) state.now) ≡ false) }
     {
         let count = self.machine.signature().count();
-        if is_reached(&reached.nodes, &reached.index, hash, state, count) {
+        if reached.nodes.has(state, hash, count) {
             return Ok(true);
         }
         if !self.machine.is_right(self.alloc, state) {
@@ -155,8 +168,12 @@ impl<'m, M: Machine> Search<'m, M> {
         if reached.nodes.len() >= self.limit as usize {
             return Err(SearchError::States);
         }
-        reached.nodes.push(state, count, from as u32, below)?;
-        note_last(self.alloc, &reached.nodes, hash, &mut reached.index)?;
+        let link = Link {
+            from: from as u32,
+            depth: below,
+            count,
+        };
+        reached.nodes.add(self.alloc, state, hash, link)?;
         Ok(true)
     }
 
@@ -246,7 +263,7 @@ impl<'m, M: Machine> Search<'m, M> {
         ensures { ExpandsNode (M.shape self.now.machine.now) (M.specification self.now.machine.now) (M.turns self.now.machine.now) (M.right self.now.machine.now) (M.rests self.now.machine.now) (λ _. ⊥) from self.now.limit reached.old.nodes reached.new.nodes result }
     {
         let below = reached.nodes.depth(from) + 1;
-        reached.index.count(outcomes.len());
+        reached.counts.count(outcomes.len());
         match self.follow_all(reached, from, state, outcomes, below)? {
             None => Ok(None),
             Some(bad) => {
@@ -311,10 +328,11 @@ impl<'m, M: Machine> Search<'m, M> {
         ensures known { IfOk result (λ fine. IsTrue fine → (m : Node) → slice_get ahead.now.states number ≡ Some m → Known (M.shape self.now.machine.now) reached.new.nodes below (state_at (M.shape self.now.machine.now) m)) }
     {
         let hash = ahead.hashes.get(number).copied().unwrap_or(0);
-        if is_there(&reached.nodes, &reached.index, hash, &ahead.states, number) {
+        if reached.nodes.has_one_of(hash, &ahead.states, number) {
             return Ok(true);
         }
         let state = ahead.states.state(self.alloc, number, like)?;
+        let hash = hash_of(&state, self.machine.signature().count());
         self.reach(reached, &state, hash, from, below)
     }
 
@@ -361,11 +379,11 @@ impl<'m, M: Machine> Search<'m, M> {
         ensures quiet { ListsQuiet (M.specification self.now.machine.now) (M.turns self.now.machine.now) (M.rests self.now.machine.now) (state_of (M.shape self.now.machine.now) state.now) from quiet.old.items quiet.new.items result }
     {
         let below = reached.nodes.depth(from) + 1;
-        reached.index.count(ahead.outcomes);
+        reached.counts.count(ahead.outcomes);
         if self.reach_all(reached, from, state, ahead, below)? {
             rest(self.alloc, self.machine, from, state, ahead.is_quiet, quiet)
         } else {
-            reached.index.uncount(ahead.outcomes);
+            reached.counts.uncount(ahead.outcomes);
             self.expand_listed(reached, from, state, quiet)
         }
     }
@@ -465,12 +483,11 @@ impl<'m, M: Machine> Search<'m, M> {
         ensures rests { IfErr result (λ stopped. IsRested (M.shape self.now.machine.now) (M.specification self.now.machine.now) (M.turns self.now.machine.now) (M.rests self.now.machine.now) (M.within self.now.machine.now) self.now.steps stopped.expanded reached.new.nodes quiet.new.items) }
         ensures stopped { IfErr result (λ stopped. IsStopped (M.shape self.now.machine.now) (M.specification self.now.machine.now) (M.turns self.now.machine.now) (IsOverLimitOf (M.made self.now.machine.now) (M.limit self.now.machine.now)) (M.right self.now.machine.now) (M.rests self.now.machine.now) (M.within self.now.machine.now) self.now.steps self.now.limit reached.new.nodes stopped) }
     {
-        let most = reached.index.next_batch(self.machine.batch());
+        let most = reached.counts.next_batch(self.machine.batch());
         let batch = match next_batch(
             self.alloc,
             self.machine,
             &reached.nodes,
-            &reached.index,
             expanded,
             self.steps,
             most,
@@ -485,7 +502,7 @@ impl<'m, M: Machine> Search<'m, M> {
             }
         };
         let states = batch.states.as_slice();
-        reached.index.stepped(states.len());
+        reached.counts.stepped(states.len());
         if states.len() == 0 {
             return Ok(expanded + 1);
         }
@@ -523,6 +540,33 @@ impl<'m, M: Machine> Search<'m, M> {
         SearchSoFar {
             expanded,
             ended: ended_all(&reached.nodes, self.steps),
+        }
+    }
+
+    /// Expands all nodes, and those that come of them. No two of them have the same state.
+    fn look<W: Watch<Progress>>(
+        &self,
+        mut reached: Reached,
+        like: &State,
+        quiet: &mut Vec<u32>,
+        watch: &mut W,
+    ) -> Looked
+        requires machine { M.is_sound self.now.machine.now }
+        requires like { length like.now ≡ count_of (M.shape self.now.machine.now) }
+        requires room { length reached.nodes ≤ self.now.limit }
+        requires looked { IsLooked (M.shape self.now.machine.now) (M.specification self.now.machine.now) (M.turns self.now.machine.now) (M.right self.now.machine.now) (M.within self.now.machine.now) self.now.steps 0 reached.nodes }
+        requires rested { IsRested (M.shape self.now.machine.now) (M.specification self.now.machine.now) (M.turns self.now.machine.now) (M.rests self.now.machine.now) (M.within self.now.machine.now) self.now.steps 0 reached.nodes quiet.old.items }
+        requires near { IsNear reached.nodes 0 }
+        ensures rests { IsRested (M.shape self.now.machine.now) (M.specification self.now.machine.now) (M.turns self.now.machine.now) (M.rests self.now.machine.now) (M.within self.now.machine.now) self.now.steps result.so_far.expanded result.nodes quiet.new.items }
+        ensures stopped { IsStopped (M.shape self.now.machine.now) (M.specification self.now.machine.now) (M.turns self.now.machine.now) (IsOverLimitOf (M.made self.now.machine.now) (M.limit self.now.machine.now)) (M.right self.now.machine.now) (M.rests self.now.machine.now) (M.within self.now.machine.now) self.now.steps self.now.limit result.nodes result.so_far }
+        ensures own { HaveOwnStates result.nodes }
+    {
+        let so_far = self.expand_all(&mut reached, like, quiet, watch);
+        let Reached { nodes, counts } = reached;
+        Looked {
+            nodes: nodes.into_nodes(),
+            counts,
+            so_far,
         }
     }
 }
@@ -589,15 +633,16 @@ pub fn explore<M: Machine, W: Watch<Progress>>(
     ensures deep { IfOk result (λ explored. IfBad explored.ended (λ bad. (n : Node) → slice_get explored.nodes bad.from ≡ Some n → (n.depth ≡ explored.whole) × (bad.fault ≢ Deadlock → n.depth < steps))) }
     ensures nodes { IfOk result (λ explored. Each (IsGood (M.shape machine.now) (M.right machine.now)) explored.nodes × Each (IsLinked (M.shape machine.now) (M.specification machine.now) (M.turns machine.now) explored.nodes) explored.nodes) }
     ensures crowded { IfOk result (λ explored. IfOverLimit explored.ended (λ crowd. (number : ℕ) × AtNode (M.shape machine.now) (IsOverLimitOf (M.made machine.now) (M.limit machine.now)) explored.nodes number explored.whole crowd)) }
-    ensures full { IfOk result (λ explored. explored.ended ≡ TooManyStates → limit ≤ length explored.nodes) }
+    ensures own { IfOk result (λ explored. HaveOwnStates explored.nodes) }
+    ensures full { IfOk result (λ explored. explored.ended ≡ TooManyStates →
+        IsOverfull (M.shape machine.now) (M.specification machine.now) (M.turns machine.now) (M.right machine.now) (M.within machine.now) limit explored.whole explored.nodes) }
     ensures near { IfOk result (λ explored. explored.ended ≡ TooManyStates → Each (λ n. n.depth ≤ explored.whole + 1) explored.nodes) }
 {
     let count = machine.signature().count();
-    let mut nodes = Nodes::new(alloc);
-    nodes.push(initial, count, 0, 0)?;
-    let mut index = Index::new(alloc);
-    note_last(alloc, &nodes, hash_of(initial, count), &mut index)?;
-    let mut reached = Reached { nodes, index };
+    let reached = Reached {
+        nodes: IndexedNodes::new(alloc, initial, count)?,
+        counts: Counts::new(),
+    };
     let mut quiet = Vec::new(alloc);
     let search = Search {
         alloc,
@@ -605,20 +650,23 @@ pub fn explore<M: Machine, W: Watch<Progress>>(
         steps,
         limit: limit.max(1),
     };
-    let looked = search.expand_all(&mut reached, initial, &mut quiet, watch);
-    let Reached { nodes, index } = reached;
-    let whole = whole_depth(&nodes, looked.expanded, steps);
-    let first = first_left(looked.expanded, whole, steps);
+    let Looked {
+        nodes,
+        counts,
+        so_far,
+    } = search.look(reached, initial, &mut quiet, watch);
+    let whole = whole_depth(&nodes, so_far.expanded, steps);
+    let first = first_left(so_far.expanded, whole, steps);
     let deadlocks = deadlocks_at(alloc, machine, &nodes, first, whole, initial);
-    let end = settle(alloc, looked.ended, deadlocks, whole);
+    let end = settle(alloc, so_far.ended, deadlocks, whole);
     Ok(SearchResult {
         nodes,
         whole,
         safe: end.safe,
-        expanded: looked.expanded,
+        expanded: so_far.expanded,
         ended: end.ended,
-        outcomes: index.outcomes,
-        widest: index.widest,
+        outcomes: counts.outcomes,
+        widest: counts.widest,
         quiet,
     })
 }

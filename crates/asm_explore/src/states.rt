@@ -2,9 +2,10 @@
 
 pub mod batch;
 pub mod byte;
+pub(crate) mod counts;
 pub mod deadlocks;
-pub mod different;
 pub mod index;
+pub(crate) mod indexed_nodes;
 pub mod lookup;
 pub mod nodes;
 pub mod quiet;

@@ -11,7 +11,6 @@ pub enum Verdict {
     WrongFirst,
     /// Up to how many steps it is safe, if any.
     TooManyStates(Option<u32>),
-    StatesRepeated,
     /// The same, and the outcomes of a part and of what is beside it.
     TooManyOutcomes(Option<u32>, usize, usize),
     NoMemory(Option<u32>),
@@ -37,7 +36,6 @@ fn verdict_of(finding: &Finding) -> Verdict {
         Finding::BadStep(bad) => Verdict::Bad(bad.step, bad.fault),
         Finding::WrongFirst => Verdict::WrongFirst,
         Finding::TooManyStates(safe) => Verdict::TooManyStates(*safe),
-        Finding::StatesRepeated => Verdict::StatesRepeated,
         Finding::TooManyOutcomes { safe, crowd } => {
             Verdict::TooManyOutcomes(*safe, crowd.first, crowd.others)
         }

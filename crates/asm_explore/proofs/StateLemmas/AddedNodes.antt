@@ -20,7 +20,7 @@ use Rattle.asm_explore.specs.declared.search_result.BadStep.{BadStep}
 use Rattle.asm_explore.specs.code.AddedNodes.{CanAdd, CanExpand, AddsNodes, ExpandsNode}
 use Rattle.asm_explore.specs.code.ListElements.{Each}
 use Rattle.asm_explore.specs.code.PackedNodes.{Node}
-use Rattle.asm_explore.specs.code.ReachedStates.{AreBegun, Extends, IsGood}
+use Rattle.asm_explore.specs.code.ReachedStates.{AreBegun, Extends, IsFull, IsGood}
 use Rattle.asm_explore.specs.code.SearchEnds.{HaltsSo}
 use Rattle.asm_explore.proofs.SearchEnds.{full_on, halts_weaker}
 use Rattle.asm_explore.proofs.StateLemmas.MoreNodes.{at_less, begun_both, begun_none, each_got, extends_both, extends_none, good_more, long_more, shallow_more, some_at}
@@ -89,7 +89,7 @@ module _ (shape : Shape) (specification : Specification) (turns : ℕ) (right : 
         extends = adds.extends;
         begun = adds.begun;
         room = adds.room;
-        full = full_on (HaltsSo (limit ≤ length new) (λ (_ : RuleOverLimit). ⊥)) r returned e was same adds.full;
+        full = full_on (HaltsSo (IsFull shape specification turns right limit from new) (λ (_ : RuleOverLimit). ⊥)) r returned e was same adds.full;
       }
 
   module _ (d : ℕ) (old new : List Node) (deep : (n : Node) → slice_get old from ≡ Some n → d ≡ n.depth) where
@@ -108,6 +108,6 @@ module _ (shape : Shape) (specification : Specification) (turns : ℕ) (right : 
       wrong = tt;
       apart = tt;
       full =
-          halts_weaker (limit ≤ length new) (limit ≤ length new) (λ (_ : RuleOverLimit). ⊥) crowds again (λ x. x) (λ _ no. absurd no)
-          (subst (HaltsSo (limit ≤ length new) (λ (_ : RuleOverLimit). ⊥)) (sym same) (subst (λ r. IfErr r (HaltsSo (limit ≤ length new) (λ (_ : RuleOverLimit). ⊥))) was adds.full));
+          halts_weaker (IsFull shape specification turns right limit from new) (IsFull shape specification turns right limit from new) (λ (_ : RuleOverLimit). ⊥) crowds again (λ x. x) (λ _ no. absurd no)
+          (subst (HaltsSo (IsFull shape specification turns right limit from new) (λ (_ : RuleOverLimit). ⊥)) (sym same) (subst (λ r. IfErr r (HaltsSo (IsFull shape specification turns right limit from new) (λ (_ : RuleOverLimit). ⊥))) was adds.full));
     }

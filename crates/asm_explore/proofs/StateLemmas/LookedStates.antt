@@ -22,7 +22,7 @@ use Rattle.asm_explore.specs.code.ReachedStates.{IsLooked, Rises, state_at}
 use Rattle.asm_explore.specs.ExplorationResults.{known_to}
 use Rattle.asm_explore.specs.Search.{HoldsBefore, IsQuiet}
 use Rattle.asm_explore.specs.StateLists.{Counts, IsAmongFirst}
-use Rattle.asm_explore.proofs.StateLemmas.DifferentStates.{mapped_at}
+use Rattle.asm_explore.proofs.StateLemmas.OwnStates.{mapped_at}
 use Rattle.asm_explore.proofs.StateLemmas.MoreNodes.{each_got, holds_always, holds_before, looked_done, looked_whole}
 
 each_there : {X : Type 0} (P : X → Type 0) (xs : List X) → ((j : ℕ) (x : X) → slice_get xs j ≡ Some x → P x) → Each P xs

@@ -28,7 +28,7 @@ use Rattle.asm_explore.specs.code.PackedNodes.{Node}
 use Rattle.asm_explore.specs.declared.updates.Updates.{Updates}
 use Rattle.asm_explore.specs.declared.fault.Fault.{Fault}
 use Rattle.asm_explore.specs.code.OutcomeLists.{Situation, Each, AnyOf, Shows, Shown}
-use Rattle.asm_explore.specs.code.ReachedStates.{AreBegun, AreInside, steps_from, state_at, Known, Rises, IsNear, IsGood, Extends, FollowsStep, Expanded, IsLinked, IsLooked, IsOutcome, IsBadStep, LeadsTo, IsSearched}
+use Rattle.asm_explore.specs.code.ReachedStates.{AreBegun, AreInside, ComesFrom, steps_from, state_at, Known, Rises, IsNear, IsGood, Extends, FollowsStep, Expanded, IsLinked, IsLooked, IsOutcome, IsBadStep, LeadsTo, IsSearched}
 use Rattle.asm_explore.specs.Search.{LeadsOn, IsSafeUpTo, IsSafe, HoldsBefore, HoldsAlways}
 use Rattle.asm_explore.proofs.OutcomeLemmas.ListLemmas.{each_append, each_at, each_weaker, any_first, any_last, any_weaker, any_take_more}
 use Rattle.asm_explore.proofs.StateLemmas.RunsThroughKnown.{layers_are_safe, closure_is_safe}
@@ -46,7 +46,7 @@ pub each_got : {X : Type 0} (P : X → Type 0) (xs : List X) (i : ℕ) (x : X) �
 each_got P xs i x h there = each_at P xs i x (slice_get_within xs i x there) (sym (get_or_from_slice_get xs i x x there)) h
 
 -- what is in two lists is in the one or in the other
-slice_split : (xs ys : List Node) (i : ℕ) (n : Node) → slice_get (xs ++ ys) i ≡ Some n
+pub slice_split : (xs ys : List Node) (i : ℕ) (n : Node) → slice_get (xs ++ ys) i ≡ Some n
     → (slice_get xs i ≡ Some n) ⊎ ((k : ℕ) × (i ≡ length xs + k) × (slice_get ys k ≡ Some n))
 slice_split [] ys i n is = inr (i, omega arith, is)
 slice_split (x ∷ xs) ys zero n is = inl is
@@ -157,16 +157,16 @@ module _ (shape : Shape) (specification : Specification) (turns : ℕ) (right : 
 
   -- a step's state, as a node
   pub comes_from : (old : List Node) (from : ℕ) (n : Node) → from < length old → n.from ≡ from → n.depth ≡ below
-      → LeadsTo shape specification turns old from below (state_at shape n) → IsLinked shape specification turns old n
+      → LeadsTo shape specification turns old from below (state_at shape n) → ComesFrom shape specification turns old n
   comes_from old from n low at deep leads =
       let one = some_at old from low in
       let steps = leads one.0 one.1 in
-      inr (record {
+      record {
         earlier = one.0;
         there = ap (slice_get old) at ∙ one.1;
         deeper = deep ∙ steps.0;
         leads = steps.1;
-      })
+      }
 
 -- ---- nodes that come from one
 

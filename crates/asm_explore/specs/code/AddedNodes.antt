@@ -17,7 +17,7 @@ use Rattle.asm_explore.specs.code.ChoicePaths.{HaveOwnPaths}
 use Rattle.asm_explore.specs.code.ListElements.{Each}
 use Rattle.asm_explore.specs.code.PackedNodes.{Node}
 use Rattle.asm_explore.specs.code.QuietStates.{RestsSo}
-use Rattle.asm_explore.specs.code.ReachedStates.{AreBegun, Expanded, Extends, IsBadStep, IsGood, IsNear}
+use Rattle.asm_explore.specs.code.ReachedStates.{AreBegun, Expanded, Extends, IsBadStep, IsFull, IsGood, IsNear}
 use Rattle.asm_explore.specs.code.SearchEnds.{HaltsSo}
 
 module _ (shape : Shape) (right : State → Bool) where
@@ -41,7 +41,7 @@ module _ (shape : Shape) (specification : Specification) (turns : ℕ) (right : 
     pub extends : Extends shape specification turns right below old new
     pub begun : AreBegun from old new
     pub room : length new ≤ limit
-    pub full : IfErr result (HaltsSo (limit ≤ length new) (λ _. ⊥))
+    pub full : IfErr result (HaltsSo (IsFull shape specification turns right limit from new) (λ _. ⊥))
 
   -- a step with too many outcomes is refused so
   pub record ExpandsNode (rests : State → Bool) (crowds : RuleOverLimit → Type 0) (from limit : ℕ) (old new : List Node) (result : Result (Option BadStep) SearchError) : Type 0 where
@@ -51,7 +51,7 @@ module _ (shape : Shape) (specification : Specification) (turns : ℕ) (right : 
     pub expanded : IfOk result (λ bad. IfNone bad ((n : Node) → slice_get old from ≡ Some n → Expanded shape specification turns new n))
     pub wrong : IfOk result (λ bad. IfSome bad (λ b. (b.from ≡ from) × IsBadStep shape specification turns right rests old from b.choices.items b.fault))
     pub apart : IfOk result (λ bad. IfSome bad (λ b. HaveOwnPaths b.choices.items))
-    pub full : IfErr result (HaltsSo (limit ≤ length new) crowds)
+    pub full : IfErr result (HaltsSo (IsFull shape specification turns right limit from new) crowds)
 
 -- of a node whose state is A; nothing is listed if something is wrong
 pub record ListsQuiet (specification : Specification) (turns : ℕ) (may_rest : State → Bool) (A : State) (number : ℕ) (old new : List ℕ) (result : Result (Option BadStep) SearchError) : Type 0 where

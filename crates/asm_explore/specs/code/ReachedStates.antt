@@ -13,6 +13,9 @@
 --     AreInside         a step to a node began in a state that is within
 --     Extends           nodes with more after them, which have right states, are linked, and have
 --                       one depth
+--     IsFull            there are as many nodes as the limit says, and the step from one of them
+--                       leads to a state that none has
+--     IsOverfull        so it is, after at most so many steps
 --     IsBadStep         a step that goes wrong
 --     IsLooked          what stays true while nodes are expanded
 --     IsStopped         what a search that has ended has looked at, and why it has
@@ -40,6 +43,7 @@ use Rattle.asm_explore.specs.declared.fault.Fault.TheVariants as fault
 use Rattle.asm_explore.specs.declared.outcomes.listed_outcome.Choice.{Choice}
 use Rattle.asm_explore.specs.declared.outcomes.listed_outcome.ListedOutcome.{ListedOutcome}
 use Rattle.asm_explore.specs.declared.outcomes.outcomes_error.RuleOverLimit.{RuleOverLimit}
+use Rattle.asm_explore.specs.code.IndexedNodes.{IsNew}
 use Rattle.asm_explore.specs.code.PackedNodes.{Node}
 use Rattle.asm_explore.specs.code.OutcomeLists.{Situation, Each, AnyOf, AreTaken, Shown, IsSound}
 use Rattle.asm_explore.specs.code.ChoicePaths.{HaveOwnPaths}
@@ -134,6 +138,22 @@ module _ (shape : Shape) where
       pub linked : Each (IsLinked new) more
       pub deep : Each (λ n. n.depth ≡ below) more
 
+    -- there are as many nodes as that, and the step from the one with this number leads to one
+    -- more, whose state none of them has
+    pub record IsFull (right : State → Bool) (limit from : ℕ) (nodes : List Node) : Type 0 where
+      pub many : limit ≤ length nodes
+      pub more : Node
+      pub new : IsNew nodes more.state
+      pub good : IsGood right more
+      pub begun : more.from ≡ from
+      pub linked : ComesFrom nodes more
+
+    -- that step begins in a state that is within, after at most `whole` steps
+    pub record IsOverfull (right within : State → Bool) (limit whole : ℕ) (nodes : List Node) : Type 0 where
+      pub from : ℕ
+      pub full : IsFull right limit from nodes
+      pub shallow : (n : Node) → slice_get nodes from ≡ Some n → (n.depth ≤ whole) × (within (state_at n) ≡ true)
+
     -- an outcome of the step from a node, which goes one step deeper
     abbrev pub IsOutcome : List Node → (from below : ℕ) → ListedOutcome → Type 0
     IsOutcome nodes from below f = (n : Node) → slice_get nodes from ≡ Some n → (below ≡ n.depth + 1) × IsSound shape (steps_from specification turns (state_at n)) f
@@ -183,6 +203,6 @@ module _ (shape : Shape) where
       pub all : IsDone looked.ended → looked.expanded ≡ length nodes
       pub closed : looked.ended ≡ ended.Closed → Each (λ n. n.depth < depth) nodes
       pub wrong : IfBad looked.ended (λ bad. IsBad right rests nodes bad × (bad.from ≡ looked.expanded) × ((n : Node) → slice_get nodes bad.from ≡ Some n → (n.depth < depth) × (within (state_at n) ≡ true)))
-      pub full : looked.ended ≡ ended.TooManyStates → limit ≤ length nodes
+      pub full : looked.ended ≡ ended.TooManyStates → IsFull right limit looked.expanded nodes × ((n : Node) → slice_get nodes looked.expanded ≡ Some n → within (state_at n) ≡ true)
       pub near : looked.ended ≡ ended.TooManyStates → (n : Node) × (slice_get nodes looked.expanded ≡ Some n) × (n.depth < depth) × Each (λ m. m.depth ≤ n.depth + 1) nodes
       pub crowded : IfOverLimit looked.ended (λ crowd. (n : Node) × (slice_get nodes looked.expanded ≡ Some n) × (n.depth < depth) × crowds (state_at n) crowd)

@@ -10,8 +10,7 @@ ghost use Rattle.asm_explore.specs.code.ReachedStates.{state_at};
 
 use crate::machine::Machine;
 use crate::search_error::SearchError;
-use crate::states::index::Index;
-use crate::states::nodes::Nodes;
+use crate::states::indexed_nodes::IndexedNodes;
 use crate::step_ahead::StepAhead;
 use asm_state::state::State;
 use std::alloc::Global;
@@ -20,7 +19,7 @@ use std::alloc::Global;
 fn next_states<M: Machine>(
     alloc: Global,
     machine: &M,
-    nodes: &Nodes,
+    nodes: &IndexedNodes,
     first: usize,
     steps: u32,
     most: usize,
@@ -57,8 +56,7 @@ fn look_from<M: Machine>(
     alloc: Global,
     machine: &M,
     states: &[State],
-    nodes: &Nodes,
-    index: &Index,
+    nodes: &IndexedNodes,
 ) -> Result<Vec<Option<StepAhead>>, SearchError>
     requires machine { M.is_sound machine.now }
     requires states { Each (IsStateOf (M.shape machine.now)) states.now }
@@ -67,7 +65,7 @@ fn look_from<M: Machine>(
     ensures ahead { IfOk result (λ all. AreAhead (M.shape machine.now) (M.specification machine.now) (M.turns machine.now) nodes.now (take (length all.items) states.now) all.items) }
     ensures never { IfErr result (HaltsSo ⊥ (λ _. ⊥)) }
 {
-    let all = machine.ahead(alloc, states, nodes, index)?;
+    let all = machine.ahead(alloc, states, nodes.nodes(), nodes.index())?;
     Ok(all)
 }
 
@@ -83,8 +81,7 @@ pub(crate) struct Batch {
 pub(crate) fn next_batch<M: Machine>(
     alloc: Global,
     machine: &M,
-    nodes: &Nodes,
-    index: &Index,
+    nodes: &IndexedNodes,
     first: usize,
     steps: u32,
     most: usize,
@@ -104,7 +101,7 @@ pub(crate) fn next_batch<M: Machine>(
     ensures never { IfErr result (HaltsSo ⊥ (λ _. ⊥)) }
 {
     let mut states = next_states(alloc, machine, nodes, first, steps, most, like)?;
-    let ahead = look_from(alloc, machine, states.as_slice(), nodes, index)?;
+    let ahead = look_from(alloc, machine, states.as_slice(), nodes)?;
     states.truncate(ahead.len());
     Ok(Batch { states, ahead })
 }

@@ -1,5 +1,5 @@
 //! Values that a byte stands for.
-ghost use Rattle.std.specs.Prelude.{◌≡◌, IfSome, IsTrue};
+ghost use Rattle.std.specs.Prelude.{◌≡◌, ◌≢◌, false, IfSome, IsTrue};
 ghost use Rattle.asm_explore.specs.code.ByteValues.{code_of_byte, content_of_byte};
 
 use asm_state::word::Word;
@@ -10,7 +10,7 @@ const CODES_BEFORE_NUMBERS: u64 = 99_999_999_999_999_968;
 /// What the code of one of the first 124 elements has more than its byte.
 const CODES_BEFORE_ELEMENTS: u64 = 199_999_999_999_999_873;
 
-/// The first byte of a number, after those of `undef` and the truth values.
+/// The first byte of a number, after those of `undef`, which are 0 and 1, and the truth values.
 const FIRST_NUMBER: u64 = 4;
 
 /// The first byte of an element.
@@ -23,7 +23,7 @@ fn code_of(byte: u8) -> u64
 {
     let byte = u64::from(byte);
     if byte < FIRST_NUMBER {
-        byte
+        byte.max(1)
     } else if byte < FIRST_ELEMENT {
         byte + CODES_BEFORE_NUMBERS
     } else {
@@ -45,7 +45,8 @@ pub(crate) fn content_of(byte: u8) -> Word
 /// Whether a byte stands for this value.
 #[inline(always)]
 pub(crate) fn is_of(byte: u8, word: Word) -> bool
-    ensures { IsTrue result → content_of_byte byte ≡ word }
+    ensures same { IsTrue result → content_of_byte byte ≡ word }
+    ensures other { result ≡ false → content_of_byte byte ≢ word }
 {
     code_of(byte) == word.code()
 }

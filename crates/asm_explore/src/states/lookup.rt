@@ -1,5 +1,7 @@
 //! States are looked up among nodes by an index.
-ghost use Rattle.std.specs.Prelude.{◌≡◌, ◌<◌, IsTrue, Some, length, slice_get};
+ghost use Rattle.std.specs.Prelude.{◌≡◌, ◌≢◌, ◌+◌, ◌<◌, ℕ, List, [], ◌∷◌, ◌++◌, false, IsTrue, IfNone, IfOk, IfSome, OnOk, OnErr, Some, length, slice_get};
+ghost use Rattle.asm_explore.specs.code.IndexedNodes.{IsFreeFor, IsIndexed, IsNew, IsTakenUpTo};
+ghost use Rattle.asm_explore.specs.code.StateHashes.{hash_of_contents};
 ghost use Rattle.asm_explore.specs.code.PackedNodes.{Node};
 ghost use Rattle.asm_explore.specs.code.OutcomeLists.{Each, AnyOf};
 
@@ -8,12 +10,23 @@ use crate::states::nodes::Nodes;
 use asm_state::state::State;
 use std::alloc::{AllocError, Global};
 
+/// Where a node comes from, and how many contents it has.
+#[derive(Clone, Copy)]
+pub(crate) struct Link {
+    /// The number of the node that the step to it began in.
+    pub from: u32,
+    /// The number of that step, or 0 for the state in which runs begin.
+    pub depth: u32,
+    pub count: usize,
+}
+
 /// Whether a node has this state.
 fn has_state(nodes: &Nodes, number: usize, state: &State, count: usize) -> bool
     requires number { number < length nodes.now }
     requires nodes { Each (λ n. length n.state ≡ count) nodes.now }
     requires state { length state.now ≡ count }
-    ensures { IsTrue result → AnyOf (λ n. n.state ≡ state.now) nodes.now }
+    ensures found { IsTrue result → AnyOf (λ n. n.state ≡ state.now) nodes.now }
+    ensures other { result ≡ false → (n : Node) → slice_get nodes.now number ≡ Some n → n.state ≢ state.now }
 {
     nodes.has_state(number, state)
 }
@@ -22,7 +35,8 @@ fn has_state(nodes: &Nodes, number: usize, state: &State, count: usize) -> bool
 fn stands_in(nodes: &Nodes, slot: u32, state: &State, count: usize) -> bool
     requires nodes { Each (λ n. length n.state ≡ count) nodes.now }
     requires state { length state.now ≡ count }
-    ensures { IsTrue result → AnyOf (λ n. n.state ≡ state.now) nodes.now }
+    ensures found { IsTrue result → AnyOf (λ n. n.state ≡ state.now) nodes.now }
+    ensures other { result ≡ false → (number : ℕ) (n : Node) → slot ≡ number + 1 → slice_get nodes.now number ≡ Some n → n.state ≢ state.now }
 {
     let number = slot as usize;
     if number == 0 || number > nodes.len() {
@@ -31,7 +45,8 @@ fn stands_in(nodes: &Nodes, slot: u32, state: &State, count: usize) -> bool
     has_state(nodes, number - 1, state, count)
 }
 
-/// Whether the index leads to a node that has this state, which has this hash.
+/// Whether the index leads to a node that has this state, which has this hash. If it doesn't, no
+/// node has it.
 pub(crate) fn is_reached(
     nodes: &Nodes,
     index: &Index,
@@ -41,7 +56,8 @@ pub(crate) fn is_reached(
 ) -> bool
     requires nodes { Each (λ n. length n.state ≡ count) nodes.now }
     requires state { length state.now ≡ count }
-    ensures { IsTrue result → AnyOf (λ n. n.state ≡ state.now) nodes.now }
+    ensures found { IsTrue result → AnyOf (λ n. n.state ≡ state.now) nodes.now }
+    ensures new { result ≡ false → hash ≡ hash_of_contents state.now → IsIndexed nodes.now index.now.slots.items index.now.tags.items → IsNew nodes.now state.now }
 {
     let (slots, tags) = (index.slots.as_slice(), index.tags.as_slice());
     if tags.len() == 0 || slots.len() != tags.len() {
@@ -49,7 +65,7 @@ pub(crate) fn is_reached(
     }
     let tag = tag_of(hash);
     let mut at = first_slot(hash, tags.len());
-    for _ in 0..tags.len() {
+    for steps in 0..tags.len() {
         let other = tags[at];
         if other == 0 {
             return false;
@@ -113,50 +129,93 @@ pub(crate) fn is_there(
     false
 }
 
-/// Notes where a node is, whose state has this hash.
-fn note(hash: u64, number: usize, index: &mut Index)
-    requires few { number < 4_294_967_295 }
+/// The slot that the search for a hash comes to first of all that are free. An index has more slots
+/// than nodes, so there is one.
+fn free_slot(hash: u64, tags: &[u8]) -> Option<usize>
+    ensures some { IfSome result (IsFreeFor tags.now hash) }
+    ensures none { IfNone result (IsTakenUpTo tags.now hash (length tags.now)) }
 {
-    let places = index.tags.len();
-    if places == 0 || index.slots.len() != places {
-        return;
+    if tags.len() == 0 {
+        return None;
     }
-    let mut at = first_slot(hash, places);
-    for _ in 0..places {
-        if index.tags[at] == 0 {
-            index.tags[at] = tag_of(hash);
-            index.slots[at] = number as u32 + 1;
-            return;
+    let mut at = first_slot(hash, tags.len());
+    for taken in 0..tags.len() {
+        if tags[at] == 0 {
+            return Some(at);
         }
-        at = next_slot(at, places);
+        at = next_slot(at, tags.len());
     }
+    None
 }
 
-/// Notes where the last node is, whose state has this hash, in more room if three quarters of it
-/// are used.
-pub(crate) fn note_last(
-    alloc: Global,
-    nodes: &Nodes,
-    hash: u64,
-    index: &mut Index,
-) -> Result<(), AllocError>
-    requires few { length nodes.now < 4_294_967_296 }
+/// Notes in a free slot that a node is there, whose state has this hash.
+fn note(hash: u64, number: usize, at: usize, slots: &mut Vec<u32>, tags: &mut Vec<u8>)
+    requires few { number < 4_294_967_295 }
+    requires same { length slots.old.items ≡ length tags.old.items }
+    requires free { IsFreeFor tags.old.items hash at }
+    ensures indexed { (nodes : List Node) (n : Node) → length nodes ≡ number → hash ≡ hash_of_contents n.state →
+        IsIndexed nodes slots.old.items tags.old.items → IsIndexed (nodes ++ n ∷ []) slots.new.items tags.new.items }
+    ensures same { length slots.new.items ≡ length tags.new.items }
 {
-    let wanted = nodes.len().saturating_add(nodes.len() / 3);
-    if wanted < index.tags.len() {
-        if nodes.len() > 0 {
-            note(hash, nodes.len() - 1, index);
-        }
-        return Ok(());
-    }
-    let places = wanted.saturating_mul(2).saturating_add(8);
+    tags[at] = tag_of(hash);
+    slots[at] = number as u32 + 1;
+}
+
+/// The slots and tags of an index of all nodes, with this many slots.
+fn index_of(alloc: Global, nodes: &Nodes, places: usize) -> Result<(Vec<u32>, Vec<u8>), AllocError>
+    requires few { length nodes.now < 4_294_967_296 }
+    ensures { IfOk result (λ made. IsIndexed nodes.now made.0.items made.1.items) }
+{
     let (mut slots, mut tags) = (Vec::new(alloc), Vec::new(alloc));
     slots.resize(places, 0u32)?;
     tags.resize(places, 0u8)?;
+    for number in 0..nodes.len() {
+        let hash = nodes.hash(number);
+        let at = free_slot(hash, tags.as_slice()).ok_or(AllocError)?;
+        note(hash, number, at, &mut slots, &mut tags);
+    }
+    Ok((slots, tags))
+}
+
+/// Makes room in the index for one more node than there are.
+fn make_room(alloc: Global, nodes: &Nodes, index: &mut Index) -> Result<(), AllocError>
+    requires few { length nodes.now < 4_294_967_296 }
+    requires indexed { IsIndexed nodes.now index.old.slots.items index.old.tags.items }
+    ensures { IsIndexed nodes.now index.new.slots.items index.new.tags.items }
+{
+    let next = nodes.len().saturating_add(1);
+    let wanted = next.saturating_add(next / 3);
+    if wanted < index.tags.len() {
+        return Ok(());
+    }
+    let places = wanted.saturating_mul(2).saturating_add(8);
+    let (slots, tags) = index_of(alloc, nodes, places)?;
     index.slots = slots;
     index.tags = tags;
-    for number in 0..nodes.len() {
-        note(nodes.hash(number), number, index);
-    }
+    Ok(())
+}
+
+/// Adds a state, which has this hash, to the nodes and to their index.
+pub(crate) fn add_node(
+    alloc: Global,
+    nodes: &mut Nodes,
+    index: &mut Index,
+    state: &State,
+    hash: u64,
+    link: Link,
+) -> Result<(), AllocError>
+    requires few { length nodes.old < 4_294_967_295 }
+    requires indexed { IsIndexed nodes.old index.old.slots.items index.old.tags.items }
+    requires hash { hash ≡ hash_of_contents state.now }
+    requires count { link.count ≡ length state.now }
+    ensures indexed { IsIndexed nodes.new index.new.slots.items index.new.tags.items }
+    ensures ok { OnOk result (nodes.new ≡ nodes.old ++ record { state = state.now; from = link.from; depth = link.depth } ∷ []) }
+    ensures err { OnErr result (nodes.new ≡ nodes.old) }
+{
+    make_room(alloc, nodes, index)?;
+    let at = free_slot(hash, index.tags.as_slice()).ok_or(AllocError)?;
+    let number = nodes.len();
+    nodes.push(state, link.count, link.from, link.depth)?;
+    note(hash, number, at, &mut index.slots, &mut index.tags);
     Ok(())
 }

@@ -1,6 +1,7 @@
 //! States that were reached, packed in little memory.
-ghost use Rattle.std.specs.Prelude.{◌≡◌, ◌+◌, ◌<◌, ◌≤◌, [], ◌∷◌, ◌++◌, Some, IsTrue, IfOk, OnOk, OnErr, length, slice_get, take, drop, map};
+ghost use Rattle.std.specs.Prelude.{◌≡◌, ◌≢◌, ◌+◌, ◌<◌, ◌≤◌, [], ◌∷◌, ◌++◌, false, Some, IsTrue, IfOk, OnOk, OnErr, length, slice_get, take, drop, map};
 ghost use Rattle.asm_explore.specs.code.PackedNodes.{Node, begin_of, between, contents_of, GrowsBy, IsFront};
+ghost use Rattle.asm_explore.specs.code.StateHashes.{hash_of_contents};
 
 use crate::same_result::is_same_value;
 use crate::states::byte::{byte_of, content_of, is_of};
@@ -123,7 +124,8 @@ impl Nodes {
     pub(crate) fn has_state(&self, number: usize, state: &State) -> bool
         requires number { number < length self.now }
         requires whole { (n : Node) → slice_get self.now number ≡ Some n → length n.state ≡ length state.now }
-        ensures { IsTrue result → (n : Node) → slice_get self.now number ≡ Some n → n.state ≡ state.now }
+        ensures same { IsTrue result → (n : Node) → slice_get self.now number ≡ Some n → n.state ≡ state.now }
+        ensures other { result ≡ false → (n : Node) → slice_get self.now number ≡ Some n → n.state ≢ state.now }
     {
         let (bytes, words) = self.contents(number);
         are_contents(bytes, words, state)
@@ -143,16 +145,10 @@ impl Nodes {
     /// The hash of its contents.
     pub(crate) fn hash(&self, number: usize) -> u64
         requires { number < length self.now }
+        ensures { (n : Node) → slice_get self.now number ≡ Some n → result ≡ hash_of_contents n.state }
     {
         let (bytes, words) = self.contents(number);
-        let mut hash = NO_CONTENTS;
-        for i in 0..bytes.len() {
-            hash = with_content(hash, content_of(bytes[i]).code());
-        }
-        for i in 0..words.len() {
-            hash = with_content(hash, words[i].code());
-        }
-        hash
+        hash_of_parts(bytes, words)
     }
 
     /// Its state. Another one with as many contents lends its form.
@@ -214,10 +210,25 @@ fn begin(links: &[NodeRecord], number: usize) -> (usize, usize)
     (before.bytes_end, before.words_end)
 }
 
+/// The hash of contents.
+fn hash_of_parts(bytes: &[u8], words: &[Word]) -> u64
+    ensures { result ≡ hash_of_contents (contents_of bytes.now words.now) }
+{
+    let mut hash = NO_CONTENTS;
+    for i in 0..bytes.len() {
+        hash = with_content(hash, content_of(bytes[i]).code());
+    }
+    for i in 0..words.len() {
+        hash = with_content(hash, words[i].code());
+    }
+    hash
+}
+
 /// Whether the state has these contents.
 fn are_contents(bytes: &[u8], words: &[Word], state: &State) -> bool
     requires { length bytes.now + length words.now ≡ length state.now }
-    ensures { IsTrue result → contents_of bytes.now words.now ≡ state.now }
+    ensures same { IsTrue result → contents_of bytes.now words.now ≡ state.now }
+    ensures other { result ≡ false → contents_of bytes.now words.now ≢ state.now }
 {
     for i in 0..bytes.len() {
         if !is_of(bytes[i], state.content(i)) {

@@ -1,38 +1,26 @@
-use Rattle.std.proofs.Common.{◌≡◌, ◌≤◌, ◌+◌, ◌∙◌, ℕ, suc, [], refl, map, take, length, true, ap, sym, subst, arith, Vec, Global}
+use Rattle.std.proofs.Common.{◌≡◌, ◌≤◌, ◌+◌, ◌∙◌, ℕ, suc, [], ◌∷◌, refl, map, take, length, true, ap, sym, subst, arith, Vec, Global}
 use Rattle.std.specs.Prelude.{◌<◌, IfSome, None, Option, Some}
 use Rattle.std.proofs.lemmas.List.{length-map}
 use Rattle.asm_state.specs.code.Contents.{IsStateOf}
-use Rattle.asm_state.specs.Signature.{count_of}
 use Rattle.asm_explore.specs.ExplorationResults.{Claims, IsLookedThrough, IsQuietRun, IsSafeIf, beyond, known_to}
 use Rattle.asm_explore.specs.Search.{IsQuiet}
 use Rattle.asm_explore.specs.StateLists.{Counts, IsAmongFirst}
-use Rattle.asm_explore.specs.code.DifferentStates.{IsFullFinding}
-use Rattle.asm_explore.specs.code.ListElements.{Each}
 use Rattle.asm_explore.specs.code.PackedNodes.{Node}
 use Rattle.asm_explore.specs.code.SearchEnds.{IfOverLimit}
 use Rattle.asm_explore.specs.code.ReachedStates.{AtNode, IsGood, state_at}
 use Rattle.asm_explore.specs.code.StepOutcomes.{IsOverLimitOf}
-use Rattle.asm_explore.proofs.FullFindings.{full_claims, full_through}
 use Rattle.asm_explore.proofs.OutcomeLemmas.ListLemmas.{each_weaker}
 use Rattle.asm_explore.proofs.StateLemmas.LookedStates.{holds_less}
 use Rattle.asm_explore.proofs.StateLemmas.MoreNodes.{each_got}
-use Rattle.asm_explore.proofs.StateLemmas.RunsToNodes.{node_reached, nodes_reached}
+use Rattle.asm_explore.proofs.StateLemmas.OwnStates.{own_first, states_different}
+use Rattle.asm_explore.proofs.StateLemmas.RunsToNodes.{more_reached, node_reached, nodes_reached, reached_more}
 use Rattle.asm_explore.proofs.explore_machine.explore_machine.Goals as goal
 use Rattle.asm_explore.proofs.explore_machine.explore_machine.Goals.{in-Closed, in-AtLimit, in-BadStep+in_ok-finding-in-BadStep, in-TooManyStates, in-TooManyOutcomes, in-Memory}
-
-pub too_many_states-finding-requires-clause-like : goal.too_many_states-finding-requires-clause-like
-too_many_states-finding-requires-clause-like g c = c.requires.kept.whole ∙ ap count_of (sym c.signature.ensures)
-
-pub too_many_states-finding-requires-clause-nodes : goal.too_many_states-finding-requires-clause-nodes
-too_many_states-finding-requires-clause-nodes g c =
-    let shape = g.M.Machine.shape c.args.machine.now in
-    let nodes = c.in_ok-nodes.field-0.nodes in
-    subst (λ s. Each (λ (n : Node). IsStateOf s n.state) nodes) (sym c.signature.ensures)
-    (each_weaker (IsGood shape (g.M.Machine.right c.args.machine.now)) (λ n. IsStateOf shape n.state) (λ n good. good.kept) nodes c.in_ok-nodes.ensures.nodes.0)
 
 pub returns-then-not-is_right : goal.returns-then-not-is_right
 returns-then-not-is_right g c = record {
   reached = [];
+  different = λ i j less low. absurd (omega (arith, less, low));
   count = refl;
   reach = tt;
   found = ap (g.M.Machine.right c.args.machine.now) (sym c.requires.initial) ∙ (sym c.is_right.ensures ∙ c.if-not-is_right.true);
@@ -63,6 +51,7 @@ returns g c =
     let looked = IsAmongFirst explored.through.looked states in
     let claims = Claims specification turns crowds a.steps a.limit right rests within states in
     let through = IsLookedThrough specification turns within looked in
+    let kept = each_weaker (IsGood shape right) (λ (n : Node). IsStateOf shape n.state) (λ n good. good.kept) nodes explored.nodes.0 in
     let safe_if = IsSafeIf specification turns crowds a.steps a.limit right rests within in
     let known = holds_less specification turns within looked (known_to result.safe) result.whole explored.known explored.through.before in
     let quiet : c.len-2.result ≡ length result.quiet.items =
@@ -70,6 +59,7 @@ returns g c =
     let found : c.len-2.result ≡ length c.as_slice.result.now = quiet ∙ sym (ap length c.as_slice.ensures.value) in
     record {
       reached = states;
+      different = states_different shape nodes kept explored.own;
       count = length-map nodes (state_at shape) ∙ sym c.len.ensures;
       reach = nodes_reached shape specification turns within nodes explored.nodes.1 explored.inside c.greatest_depth.result
           (λ i n there. each_got (λ n. n.depth ≤ c.greatest_depth.result) nodes i n c.greatest_depth.ensures there);
@@ -80,11 +70,18 @@ returns g c =
             subst claims (sym w.finding-is) (at.0, subst safe_if (at.1 ∙ ap (λ n. Some n) (sym at.0)) explored.settled)
         | in-BadStep+in_ok-finding-in-BadStep w ↦ subst claims (sym w.finding-is) (w.in_ok-finding-in-BadStep.ensures.claims a.limit states)
         | in-TooManyStates w ↦
-            let is = subst (λ s. IsFullFinding (map (state_at s) nodes) result.safe w.too_many_states-finding.result) w.signature.ensures w.too_many_states-finding.ensures in
-            let many = subst (λ n. a.limit ≤ n) (sym (length-map nodes (state_at shape))) (explored.full w.in-TooManyStates.is) in
+            let over = explored.full w.in-TooManyStates.is in
+            let more = over.full.more in
+            let many = subst (λ n. a.limit ≤ n) (sym (length-map nodes (state_at shape))) over.full.many in
+            let one = reached_more specification turns within (suc result.whole) (suc (beyond result.safe)) (state_at shape more) (omega (arith, explored.beyond))
+            (more_reached shape specification turns within nodes explored.nodes.1 explored.inside right a.limit result.whole over) in
             let near = nodes_reached shape specification turns within nodes explored.nodes.1 explored.inside (suc (beyond result.safe))
             (λ i n there. omega (arith, each_got (λ n. n.depth ≤ result.whole + 1) nodes i n (explored.near w.in-TooManyStates.is) there, explored.beyond)) in
-            subst claims (sym w.finding-is) (full_claims specification turns within states result.safe crowds a.steps a.limit right rests w.too_many_states-finding.result is many explored.settled near)
+            subst claims (sym w.finding-is) (
+              many,
+              explored.settled,
+              (state_at shape more, states_different shape (more ∷ nodes) (over.full.good.kept, kept) (own_first nodes more explored.own over.full.new), (one, near)),
+            )
         | in-TooManyOutcomes w ↦ subst claims (sym w.finding-is) (
           explored.settled,
           let at = subst (λ e. IfOverLimit e (λ crowd. (number : ℕ) × AtNode shape crowds nodes number result.whole crowd)) w.in-TooManyOutcomes.is explored.crowded in
@@ -100,9 +97,7 @@ returns g c =
         | in-Closed w ↦ subst through (sym w.finding-is) (explored.through.always w.in-Closed.is)
         | in-AtLimit w ↦ subst through (sym w.finding-is) explored.through.before
         | in-BadStep+in_ok-finding-in-BadStep w ↦ subst through (sym w.finding-is) (w.in_ok-finding-in-BadStep.ensures.through explored.through.looked states explored.through.before)
-        | in-TooManyStates w ↦
-            let is = subst (λ s. IsFullFinding (map (state_at s) nodes) result.safe w.too_many_states-finding.result) w.signature.ensures w.too_many_states-finding.ensures in
-            subst through (sym w.finding-is) (full_through specification turns within states result.safe looked w.too_many_states-finding.result is known)
+        | in-TooManyStates w ↦ subst through (sym w.finding-is) known
         | in-TooManyOutcomes w ↦ subst through (sym w.finding-is) known
         | in-Memory w ↦ subst through (sym w.finding-is) known
       ];

@@ -31,7 +31,7 @@ returns-then-is_reached-clause-leads g c = λ yes r shows.
     subst (λ s. state_of s c.in_ok-next.next ≡ fire (state_of s a.from.now) U) c.signature-signature.ensures
     (c.in_ok-next.ensures.fired U (subst (λ s. Stands s set.set U) (sym c.signature-signature.ensures) stands) fine) in
     set_leads shape set a.one.now A c.in_ok-next.next r (λ B. IsReached shape a.nodes.now B ⊎ IsReached shape a.found.now B) c.in-Set.is shows consistent fired
-    (inl (found_reached shape a.nodes.now c.in_ok-next.next (c.is_reached.ensures c.if-is_reached.true)))
+    (inl (found_reached shape a.nodes.now c.in_ok-next.next (c.is_reached.ensures.found c.if-is_reached.true)))
 
 pub returns-clause-leads : goal.returns-clause-leads
 returns-clause-leads g c = λ yes r shows.

@@ -1,4 +1,4 @@
-use Rattle.std.proofs.Common.{◌≡◌, ◌≤◌, ◌+◌, ◌<◌, ◌∙◌, length, true, refl, ap, sym, subst, arith}
+use Rattle.std.proofs.Common.{◌≡◌, ◌+◌, ◌<◌, ◌∙◌, length, true, refl, ap, sym, subst, arith}
 use Rattle.std.specs.Prelude.{Some, IfNone, IfSome, slice_get}
 use Rattle.std.proofs.lemmas.Option.{slice_get_within}
 use Rattle.asm_state.specs.Signature.{state_of}
@@ -6,7 +6,7 @@ use Rattle.asm_explore.specs.declared.search_result.BadStep.{BadStep}
 use Rattle.asm_explore.specs.code.PackedNodes.{Node}
 use Rattle.asm_explore.specs.code.ChoicePaths.{HaveOwnPaths}
 use Rattle.asm_explore.specs.code.QuietStates.{IsRested, RestsSo}
-use Rattle.asm_explore.specs.code.ReachedStates.{Expanded, IsBad, IsBadStep, IsLooked, IsNear, state_at}
+use Rattle.asm_explore.specs.code.ReachedStates.{Expanded, IsBad, IsBadStep, IsFull, IsLooked, IsNear, state_at}
 use Rattle.asm_explore.specs.code.StepOutcomes.{IsOverLimitOf}
 use Rattle.asm_explore.proofs.StateLemmas.Batches.{batch_at, shallow_at, same_node}
 use Rattle.asm_explore.proofs.SearchEnds.{refused_done, refused_closed, refused_bad, halts_full, ends_crowded}
@@ -156,14 +156,17 @@ returns-in-Err-clause-stopped g c =
       all = λ done. absurd (refused_done c.cut_off.result refused done);
       closed = λ closed. absurd (refused_closed c.cut_off.result refused closed);
       wrong = refused_bad _ c.cut_off.result refused;
-      full = λ full. halts_full (a.self.now.limit ≤ length c.expand_step.new.reached.nodes) (IsOverLimitOf makes limit A) c.in-Err.halt (c.cut_off.ensures.states full) c.in-Err.ensures.expands.full;
+      full = λ full. (
+        halts_full (IsFull shape specification turns right a.self.now.limit i c.expand_step.new.reached.nodes) (IsOverLimitOf makes limit A) c.in-Err.halt (c.cut_off.ensures.states full) c.in-Err.ensures.expands.full,
+        λ m here. subst (λ (x : Node). within (state_at shape x) ≡ true) (same_node c.expand_step.new.reached.nodes i n.0 m (at_more shape specification turns right (n.0.depth + 1) l.reached.nodes c.expand_step.new.reached.nodes extends i n.0 there) here) inside,
+      );
       near = λ full. (
         n.0,
         at_more shape specification turns right (n.0.depth + 1) l.reached.nodes c.expand_step.new.reached.nodes extends i n.0 there,
         deep,
         shallow_more shape specification turns right (n.0.depth + 1) l.reached.nodes c.expand_step.new.reached.nodes extends (l.invariant.near n.0 there),
       );
-      crowded = ends_crowded (a.self.now.limit ≤ length c.expand_step.new.reached.nodes) (IsOverLimitOf makes limit A) (λ crowd. (m : Node) × (slice_get c.expand_step.new.reached.nodes i ≡ Some m) × (m.depth < a.self.now.steps) × IsOverLimitOf makes limit (state_at shape m) crowd)
+      crowded = ends_crowded (IsFull shape specification turns right a.self.now.limit i c.expand_step.new.reached.nodes) (IsOverLimitOf makes limit A) (λ crowd. (m : Node) × (slice_get c.expand_step.new.reached.nodes i ≡ Some m) × (m.depth < a.self.now.steps) × IsOverLimitOf makes limit (state_at shape m) crowd)
           c.cut_off.result c.in-Err.halt c.cut_off.ensures.crowd
           (λ crowd so. (
             n.0,
