@@ -1,9 +1,11 @@
 mod BareViews
+mod ChoicelessSteps
 mod DraftLines
 mod DraftRuns
 mod Endings
 mod FirstFaults
 mod OneStep
-mod RightRuns
+mod QuietSteps
+mod RunsSoFar
 mod SameRuns
 mod Shortened

@@ -14,7 +14,9 @@ use Rattle.asm_meaning.specs.Yields.{Result, Gives, Exhausted}
 use Rattle.asm_explore.specs.declared.fault.Fault.{Fault}
 use Rattle.asm_explore.specs.declared.fault.Fault.TheVariants as fault
 use Rattle.asm_explore.specs.Search.{EndsSo, IsDeadlock, steps_to}
+use Rattle.asm_explore.specs.declared.outcomes.outcomes_error.RuleOverLimit.{RuleOverLimit}
 use Rattle.asm_random.specs.BadDrafts.{IsWrongUnder}
+use Rattle.asm_random.specs.FineRuns.{IsAliveOrCrowded}
 
 module _ (specification : Specification) (turns : ℕ) where
   abbrev run_by : Script → ℕ → ℕ → State → Run
@@ -80,13 +82,14 @@ module _ (specification : Specification) (turns : ℕ) where
   before_it fault.Wrong step k low = omega (arith, low)
   before_it fault.Deadlock step k low = omega (arith, low)
 
-  module _ (steps : ℕ) (right rests : State → Bool) where
+  module _ (crowds : State → RuleOverLimit → Type 0) (steps : ℕ) (right rests : State → Bool) where
     pub wrong_alike : (s t : Script) (step : ℕ) (f : Fault) → run specification turns s (steps_to f step) ≡ run specification turns t (steps_to f step)
-        → IsWrongUnder specification turns steps right rests t step f → IsWrongUnder specification turns steps right rests s step f
+        → IsWrongUnder specification turns crowds steps right rests t step f → IsWrongUnder specification turns crowds steps right rests s step f
     wrong_alike s t step f same h =
         record {
           counted = h.counted;
           limited = h.limited;
           wrong = subst (EndsSo right (IsDeadlock specification turns rests) f step) (sym same) h.wrong;
           before = λ k low. ap right (last_alike s t (steps_to f step) k (before_it f step k low) same) ∙ h.before k low;
+          alive = λ k low. let less : k ≤ steps_to f step = omega (arith, low) in subst (IsAliveOrCrowded specification turns crowds rests) (sym (last_alike s t (steps_to f step) k less same)) (h.alive k low);
         }

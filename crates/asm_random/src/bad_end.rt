@@ -4,7 +4,7 @@ ghost use Rattle.asm_explore.specs.Search.{steps_to};
 ghost use Rattle.asm_random.specs.BadDrafts.{IsWrongUnder};
 ghost use Rattle.asm_random.specs.FineRuns.{IsFineRun};
 ghost use Rattle.asm_random.specs.code.FaultKinds.{is_deadlock};
-ghost use Rattle.asm_random.specs.code.ResolvedRuns.{CanRun, rests_in, right_in, specification_in};
+ghost use Rattle.asm_random.specs.code.ResolvedRuns.{CanRun, crowds_in, rests_in, right_in, specification_in};
 
 use crate::position::Position;
 use crate::stepping::step_from;
@@ -53,9 +53,9 @@ pub(crate) fn wrong_under<P: Picks>(
 ) -> Result<Option<BadEnd>, AllocError>
     requires { CanRun specified.now }
     ensures wrong { let m = specified.now in
-        IfOk result (λ found. IfSome found (λ w. IsWrongUnder (specification_in m) m.turns steps (right_in m) (rests_in m) (P.script script.now) w.step w.fault)) }
+        IfOk result (λ found. IfSome found (λ w. IsWrongUnder (specification_in m) m.turns (crowds_in m) steps (right_in m) (rests_in m) (P.script script.now) w.step w.fault)) }
     ensures fine { let m = specified.now in
-        IfOk result (λ found. IfNone found (IsFineRun (specification_in m) m.turns steps (right_in m) record { script = P.script script.now; steps = steps })) }
+        IfOk result (λ found. IfNone found (IsFineRun (specification_in m) m.turns (crowds_in m) steps (right_in m) (rests_in m) record { script = P.script script.now; steps = steps })) }
 {
     test_laws();
     let mut at = Position::first(alloc, specified)?;

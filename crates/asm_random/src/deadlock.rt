@@ -1,14 +1,11 @@
 //! Deadlocks.
-ghost use Rattle.std.specs.Prelude.{◌⊎◌, IfOk, IsTrue};
+ghost use Rattle.std.specs.Prelude.{◌≡◌, false, IfOk, IsTrue};
 ghost use Rattle.asm_state.specs.code.Contents.{IsStateOf};
 ghost use Rattle.asm_state.specs.Signature.{state_of};
-ghost use Rattle.asm_code.specs.code.RuleViews.{rule_of};
-ghost use Rattle.asm_explore.specs.code.ChoicesMade.{made_in};
 ghost use Rattle.asm_explore.specs.code.ResolvedConditions.{IsSpecified};
-ghost use Rattle.asm_explore.specs.code.StepOutcomes.{IsOverLimitOf};
-ghost use Rattle.asm_explore.specs.declared.outcomes.outcomes_error.RuleOverLimit.{RuleOverLimit};
-ghost use Rattle.asm_random.specs.code.ResolvedRuns.{IsDead, shape_in};
+ghost use Rattle.asm_random.specs.code.ResolvedRuns.{IsDead, IsPassed, shape_in};
 
+use asm_explore::laws::over_limit;
 use asm_explore::{Machine, ResolvedQuestion, SearchError};
 use asm_state::state::State;
 use std::alloc::{AllocError, Global};
@@ -23,11 +20,9 @@ pub(crate) fn is_deadlock(
     requires sound { IsSpecified specified.now }
     requires state { IsStateOf (shape_in specified.now) state.now }
     ensures so { IfOk result (λ so. IsTrue so → IsDead specified.now (state_of (shape_in specified.now) state.now)) }
-    ensures missed { let m = specified.now in
-        let makes = made_in (shape_in m) m.turns (rule_of m.code.now) in
-        let A = state_of (shape_in m) state.now in
-        IfOk result (λ so. IsDead m A → IsTrue so ⊎ ((crowd : RuleOverLimit) × IsOverLimitOf makes m.limit A crowd)) }
+    ensures passed { IfOk result (λ so. so ≡ false → IsPassed specified.now (state_of (shape_in specified.now) state.now)) }
 {
+    over_limit();
     if specified.may_rest(alloc, state) {
         return Ok(false);
     }

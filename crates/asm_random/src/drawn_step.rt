@@ -1,16 +1,20 @@
 //! The numbers of a step, drawn.
-ghost use Rattle.std.specs.Prelude.{◌≡◌, length, OnOk};
-ghost use Rattle.asm_state.specs.Signature.{count_of};
+ghost use Rattle.std.specs.Prelude.{◌≡◌, false, length, IfOk, OnOk};
+ghost use Rattle.asm_state.specs.Signature.{count_of, state_of};
 ghost use Rattle.asm_syntax.specs.code.Views.{spec_of};
 ghost use Rattle.asm_check.specs.Shapes.{shape_of};
 ghost use Rattle.asm_explore.specs.code.ResolvedConditions.{IsSpecified};
 ghost use Rattle.asm_random.specs.code.DraftSteps.{AddsStep, ReplacesLast};
+ghost use Rattle.asm_random.specs.code.Replay.{IsSameForAll};
+ghost use Rattle.asm_random.specs.code.ResolvedRuns.{shape_in, specification_in};
 
 use crate::asked_in::asked_in;
 use crate::draft::{Draft, Numbers};
 use crate::random_source::RandomSource;
+use asm_explore::laws::{asking_law, making_laws};
 use asm_explore::{ChoicePoint, ResolvedQuestion};
 use asm_meaning::Choices;
+use asm_resolve::laws::resolving_laws;
 use asm_state::state::State;
 use std::alloc::{AllocError, Global};
 use std::collections::BTreeMap;
@@ -73,8 +77,13 @@ pub(crate) fn draw_step(
 ) -> Result<bool, AllocError>
     requires sound { IsSpecified specified.now }
     requires whole { length state.now ≡ count_of (shape_of (spec_of specified.now.checked.now.spec)) }
-    ensures { OnOk result (AddsStep draft.old draft.new) }
+    ensures adds { OnOk result (AddsStep draft.old draft.new) }
+    ensures alike { let m = specified.now in
+        IfOk result (λ chosen. chosen ≡ false → IsSameForAll (specification_in m) m.turns (state_of (shape_in m) state.now)) }
 {
+    asking_law();
+    making_laws();
+    resolving_laws();
     draft.steps.push(BTreeMap::new(alloc))?;
     let step = draft.steps.len() as u64;
     for _round in 0..u32::MAX {

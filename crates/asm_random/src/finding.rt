@@ -1,7 +1,7 @@
 //! What is found if a run goes wrong.
 ghost use Rattle.std.specs.Prelude.{ℕ, IfOk};
 ghost use Rattle.asm_random.specs.RandomResults.{Claims, Counts, IsLast};
-ghost use Rattle.asm_random.specs.code.ResolvedRuns.{CanRun, rests_in, right_in, specification_in};
+ghost use Rattle.asm_random.specs.code.ResolvedRuns.{CanRun, crowds_in, rests_in, right_in, specification_in};
 ghost use Rattle.asm_random.specs.code.ShorterRuns.{IsWrongFor};
 
 use crate::bad_draft::BadDraft;
@@ -21,10 +21,10 @@ fn finding_of(
     requires { CanRun specified.now }
     ensures claims { let m = specified.now in
         (most : ℕ) → IsWrongFor m most run.now →
-        IfOk result (Claims (specification_in m) m.turns most (right_in m) (rests_in m)) }
+        IfOk result (Claims (specification_in m) m.turns (crowds_in m) most (right_in m) (rests_in m)) }
     ensures counts { let m = specified.now in
-        (most asked runs total : ℕ) → IsLast (specification_in m) m.turns most (right_in m) asked runs total number →
-        IfOk result (Counts (specification_in m) m.turns most (right_in m) asked runs total) }
+        (most asked runs total : ℕ) → IsLast (specification_in m) m.turns (crowds_in m) most (right_in m) (rests_in m) asked runs total number run.now.wrong.step run.now.wrong.fault →
+        IfOk result (Counts (specification_in m) m.turns (crowds_in m) most (right_in m) (rests_in m) asked runs total) }
 {
     let (step, fault) = (u64::from(run.wrong.step), run.wrong.fault);
     match chosen_text(alloc, specified, &run.draft, run.wrong.steps_to_it())? {
@@ -58,10 +58,10 @@ pub(crate) fn short_finding(
     requires { CanRun specified.now }
     ensures claims { let m = specified.now in
         (most : ℕ) → IsWrongFor m most run →
-        IfOk result (λ found. Claims (specification_in m) m.turns most (right_in m) (rests_in m) found.finding) }
+        IfOk result (λ found. Claims (specification_in m) m.turns (crowds_in m) most (right_in m) (rests_in m) found.finding) }
     ensures counts { let m = specified.now in
-        (most asked runs total : ℕ) → IsLast (specification_in m) m.turns most (right_in m) asked runs total number →
-        IfOk result (λ found. Counts (specification_in m) m.turns most (right_in m) asked runs total found.finding) }
+        (most asked runs total : ℕ) → IsLast (specification_in m) m.turns (crowds_in m) most (right_in m) (rests_in m) asked runs total number run.wrong.step run.wrong.fault →
+        IfOk result (λ found. Counts (specification_in m) m.turns (crowds_in m) most (right_in m) (rests_in m) asked runs total found.finding) }
 {
     let mut run = run;
     let shortest = shorten(alloc, specified, &mut run)?;

@@ -1,5 +1,5 @@
 //! Where a run has come to.
-ghost use Rattle.std.specs.Prelude.{◌≡◌, IfOk};
+ghost use Rattle.std.specs.Prelude.{◌≡◌, false, IfOk};
 ghost use Rattle.asm_state.specs.code.Contents.{IsStateOf};
 ghost use Rattle.asm_state.specs.Signature.{state_of};
 ghost use Rattle.asm_random.specs.code.ResolvedRuns.{shape_in, specification_in};
@@ -24,6 +24,7 @@ impl Position {
     ) -> Result<Position, AllocError>
         ensures kept { IfOk result (λ at. IsStateOf (shape_in specified.now) at.state) }
         ensures initial { IfOk result (λ at. state_of (shape_in specified.now) at.state ≡ (specification_in specified.now).initial) }
+        ensures fresh { IfOk result (λ at. at.stays ≡ false) }
     {
         let state = State::initial(alloc, specified.checked.signature())?;
         Ok(Position {

@@ -5,12 +5,14 @@ ghost use Rattle.asm_check.specs.Faults.{inits};
 ghost use Rattle.asm_code.specs.code.RuleViews.{rule_of};
 ghost use Rattle.asm_meaning.specs.Declarations.{main_rule, specification_of};
 ghost use Rattle.asm_explore.specs.Conditions.{term_holds};
+ghost use Rattle.asm_explore.specs.code.MainRule.{IsMainOverLimit};
 ghost use Rattle.asm_explore.specs.code.ResolvedConditions.{IsCondition, IsSpecified};
 ghost use Rattle.asm_random.specs.RandomResults.{Claims, Counts};
-ghost use Rattle.asm_random.specs.code.ResolvedRuns.{CanRun, rests_in, right_in, specification_in};
+ghost use Rattle.asm_random.specs.code.ResolvedRuns.{CanRun, crowds_in, rests_in, right_in, specification_in};
 ghost use Rattle.asm_resolve.specs.code.RuleScopes.{resolved_rule_in};
 
-use crate::bad_draft::wrong_run;
+use crate::bad_draft::BadDraft;
+use crate::bad_end::BadEnd;
 use crate::finding::{ShortFinding, short_finding};
 use crate::progress::RandomProgress;
 use crate::question::RandomQuestion;
@@ -35,9 +37,9 @@ fn runs_of<W: Watch<RandomProgress>>(
 ) -> Result<RandomResult, AllocError>
     requires { CanRun specified.now }
     ensures claims { let m = specified.now in
-        IfOk result (λ answer. Claims (specification_in m) m.turns question.now.steps (right_in m) (rests_in m) answer.finding) }
+        IfOk result (λ answer. Claims (specification_in m) m.turns (crowds_in m) question.now.steps (right_in m) (rests_in m) answer.finding) }
     ensures counts { let m = specified.now in
-        IfOk result (λ answer. Counts (specification_in m) m.turns question.now.steps (right_in m) question.now.runs answer.runs answer.steps answer.finding) }
+        IfOk result (λ answer. Counts (specification_in m) m.turns (crowds_in m) question.now.steps (right_in m) (rests_in m) question.now.runs answer.runs answer.steps answer.finding) }
 {
     let mut made = 0u64;
     for number in 0..question.runs {
@@ -48,17 +50,16 @@ fn runs_of<W: Watch<RandomProgress>>(
         let DrawnRun {
             draft,
             steps,
-            wrong,
+            fault,
         } = random_run(alloc, specified, source, question.steps)?;
         made += u64::from(steps);
         watch.tell(RandomProgress {
             runs: number + 1,
             steps: made,
         });
-        if !wrong {
-            continue;
-        }
-        if let Some(run) = wrong_run(alloc, specified, draft, steps)? {
+        if let Some(fault) = fault {
+            let wrong = BadEnd { step: steps, fault };
+            let run = BadDraft { draft, wrong };
             let ShortFinding { finding, shortest } = short_finding(alloc, specified, number, run)?;
             return Ok(RandomResult {
                 finding,
@@ -85,9 +86,9 @@ fn result_of_runs<W: Watch<RandomProgress>>(
 ) -> Result<RandomResult, AllocError>
     requires { IsSpecified specified.now }
     ensures claims { let m = specified.now in
-        IfOk result (λ answer. Claims (specification_in m) m.turns question.now.steps (right_in m) (rests_in m) answer.finding) }
+        IfOk result (λ answer. Claims (specification_in m) m.turns (crowds_in m) question.now.steps (right_in m) (rests_in m) answer.finding) }
     ensures counts { let m = specified.now in
-        IfOk result (λ answer. Counts (specification_in m) m.turns question.now.steps (right_in m) question.now.runs answer.runs answer.steps answer.finding) }
+        IfOk result (λ answer. Counts (specification_in m) m.turns (crowds_in m) question.now.steps (right_in m) (rests_in m) question.now.runs answer.runs answer.steps answer.finding) }
 {
     let initial = State::initial(alloc, specified.checked.signature())?;
     if !specified.is_right(alloc, &initial) {
@@ -113,9 +114,9 @@ fn runs_with<W: Watch<RandomProgress>>(
     requires main { let s = spec_of checked.now.spec in resolved_rule_in s [] (main_rule s (inits s)) (rule_of code.now) }
     requires always { IsCondition checked.now question.now.always always.now }
     ensures claims { let q = question.now in
-        IfOk result (λ answer. Claims (specification_of (spec_of checked.now.spec)) q.turns q.steps (term_holds checked.now q.always) (term_holds checked.now q.when_quiet) answer.finding) }
+        IfOk result (λ answer. Claims (specification_of (spec_of checked.now.spec)) q.turns (IsMainOverLimit checked.now q.turns q.outcomes) q.steps (term_holds checked.now q.always) (term_holds checked.now q.when_quiet) answer.finding) }
     ensures counts { let q = question.now in
-        IfOk result (λ answer. Counts (specification_of (spec_of checked.now.spec)) q.turns q.steps (term_holds checked.now q.always) q.runs answer.runs answer.steps answer.finding) }
+        IfOk result (λ answer. Counts (specification_of (spec_of checked.now.spec)) q.turns (IsMainOverLimit checked.now q.turns q.outcomes) q.steps (term_holds checked.now q.always) (term_holds checked.now q.when_quiet) q.runs answer.runs answer.steps answer.finding) }
 {
     let when_quiet = condition_code(alloc, checked, &question.when_quiet)?;
     // Runs are followed from each state.
@@ -141,9 +142,9 @@ fn runs_by<W: Watch<RandomProgress>>(
 ) -> Result<RandomResult, AllocError>
     requires { let s = spec_of checked.now.spec in resolved_rule_in s [] (main_rule s (inits s)) (rule_of code.now) }
     ensures claims { let q = question.now in
-        IfOk result (λ answer. Claims (specification_of (spec_of checked.now.spec)) q.turns q.steps (term_holds checked.now q.always) (term_holds checked.now q.when_quiet) answer.finding) }
+        IfOk result (λ answer. Claims (specification_of (spec_of checked.now.spec)) q.turns (IsMainOverLimit checked.now q.turns q.outcomes) q.steps (term_holds checked.now q.always) (term_holds checked.now q.when_quiet) answer.finding) }
     ensures counts { let q = question.now in
-        IfOk result (λ answer. Counts (specification_of (spec_of checked.now.spec)) q.turns q.steps (term_holds checked.now q.always) q.runs answer.runs answer.steps answer.finding) }
+        IfOk result (λ answer. Counts (specification_of (spec_of checked.now.spec)) q.turns (IsMainOverLimit checked.now q.turns q.outcomes) q.steps (term_holds checked.now q.always) (term_holds checked.now q.when_quiet) q.runs answer.runs answer.steps answer.finding) }
 {
     let always = condition_code(alloc, checked, &question.always)?;
     runs_with(alloc, checked, code, &always, question, watch)
@@ -162,9 +163,9 @@ pub fn random_runs<W: Watch<RandomProgress>>(
     watch: &mut W,
 ) -> Result<RandomResult, AllocError>
     ensures claims { let q = question.now in
-        IfOk result (λ answer. Claims (specification_of (spec_of checked.now.spec)) q.turns q.steps (term_holds checked.now q.always) (term_holds checked.now q.when_quiet) answer.finding) }
+        IfOk result (λ answer. Claims (specification_of (spec_of checked.now.spec)) q.turns (IsMainOverLimit checked.now q.turns q.outcomes) q.steps (term_holds checked.now q.always) (term_holds checked.now q.when_quiet) answer.finding) }
     ensures counts { let q = question.now in
-        IfOk result (λ answer. Counts (specification_of (spec_of checked.now.spec)) q.turns q.steps (term_holds checked.now q.always) q.runs answer.runs answer.steps answer.finding) }
+        IfOk result (λ answer. Counts (specification_of (spec_of checked.now.spec)) q.turns (IsMainOverLimit checked.now q.turns q.outcomes) q.steps (term_holds checked.now q.always) (term_holds checked.now q.when_quiet) q.runs answer.runs answer.steps answer.finding) }
 {
     let code = resolve_main(alloc, checked)?;
     runs_by(alloc, checked, &code, question, watch)

@@ -1,6 +1,6 @@
 //! A random run.
-ghost use Rattle.std.specs.Prelude.{◌≡◌, ◌≤◌, false, IfOk};
-ghost use Rattle.asm_random.specs.code.DraftSteps.{IsFineDraft};
+ghost use Rattle.std.specs.Prelude.{IfNone, IfOk, IfSome};
+ghost use Rattle.asm_random.specs.code.DraftSteps.{IsFineDraft, IsWrongDraft};
 ghost use Rattle.asm_random.specs.code.ResolvedRuns.{CanRun};
 
 use crate::draft::Draft;
@@ -8,7 +8,7 @@ use crate::drawn_step::draw_step;
 use crate::position::Position;
 use crate::random_source::RandomSource;
 use crate::stepping::step_from;
-use asm_explore::ResolvedQuestion;
+use asm_explore::{Fault, ResolvedQuestion};
 use asm_meaning::Choices;
 use asm_state::laws::test_laws;
 use std::alloc::{AllocError, Global};
@@ -19,8 +19,8 @@ pub(crate) struct DrawnRun {
     pub(crate) draft: Draft,
     /// This many steps were made.
     pub(crate) steps: u32,
-    /// Whether the last of them went wrong.
-    pub(crate) wrong: bool,
+    /// How the last of them went wrong, if it did.
+    pub(crate) fault: Option<Fault>,
 }
 
 /// A run of at most `steps` steps. It ends when it goes wrong, and when a step makes no choice and
@@ -32,8 +32,8 @@ pub(crate) fn random_run(
     steps: u32,
 ) -> Result<DrawnRun, AllocError>
     requires { CanRun specified.now }
-    ensures limited { IfOk result (λ drawn. drawn.steps ≤ steps) }
-    ensures fine { IfOk result (λ drawn. drawn.wrong ≡ false → IsFineDraft specified.now steps drawn.draft drawn.steps) }
+    ensures wrong { IfOk result (λ drawn. IfSome drawn.fault (IsWrongDraft specified.now steps drawn.draft drawn.steps)) }
+    ensures fine { IfOk result (λ drawn. IfNone drawn.fault (IsFineDraft specified.now steps drawn.draft drawn.steps)) }
 {
     test_laws();
     let mut draft = Draft::new(alloc);
@@ -44,25 +44,31 @@ pub(crate) fn random_run(
             script: &draft,
             step: u64::from(done) + 1,
         };
-        let Ok(next) = step_from(alloc, specified, &choices, &at)? else {
-            return Ok(DrawnRun {
-                draft,
-                steps: done + 1,
-                wrong: true,
-            });
+        let next = match step_from(alloc, specified, &choices, &at)? {
+            Ok(next) => next,
+            Err(fault) => {
+                let (steps, fault) = (done + 1, Some(fault));
+                return Ok(DrawnRun {
+                    draft,
+                    steps,
+                    fault,
+                });
+            }
         };
         if !chosen && next.stays {
+            let (steps, fault) = (done + 1, None);
             return Ok(DrawnRun {
                 draft,
-                steps: done + 1,
-                wrong: false,
+                steps,
+                fault,
             });
         }
         at = next;
     }
+    let fault = None;
     Ok(DrawnRun {
         draft,
         steps,
-        wrong: false,
+        fault,
     })
 }

@@ -3,6 +3,8 @@
 --                                                      consistent set, which leads to the other
 --     IsAfter specification turns script n A           the run of n steps comes to its limit, in
 --                                                      this state
+--     IsSameForAll specification turns A               the step from the state yields the same under
+--                                                      each script, in each step
 --     GoesWrong .. right dead step A f                 the step from the state has this fault, or
 --                                                      leads to a state that isn't right, or stays
 --                                                      in a dead one
@@ -44,3 +46,7 @@ module _ (specification : Specification) (turns : ℕ) (script : Script) where
       pub kept : IfOk ended (λ x. IsStateOf shape (contents x))
       pub leads : IfOk ended (λ x. IsStep step (state_of shape old) (state_of shape (contents x)))
       pub wrong : IfErr ended (GoesWrong step (state_of shape old))
+
+abbrev pub IsSameForAll : Specification → (turns : ℕ) → State → Type 0
+IsSameForAll specification turns A =
+    (script other : Script) (step later : ℕ) → yields specification turns script step A ≡ yields specification turns other later A

@@ -1,14 +1,13 @@
-use Rattle.std.proofs.Common.{◌≡◌, ◌+◌, ℕ, true, refl, sym, subst, Ok, Err, arith}
+use Rattle.std.proofs.Common.{◌≡◌, ◌∙◌, ◌+◌, ◌≤◌, ℕ, true, sym, ap, subst, Ok, Err, arith, inl, refl}
 use Rattle.std.specs.Prelude.{IfOk, IfErr, Result}
-use Rattle.std.proofs.lemmas.Bool.{false_from_ne_true}
+use Rattle.std.proofs.lemmas.Bool.{false_from_ne_true, false≢true}
 use Rattle.asm_state.specs.code.Contents.{IsStateOf}
 use Rattle.asm_state.specs.Signature.{state_of}
 use Rattle.asm_state.specs.Updates.{is_consistent}
 use Rattle.asm_random.specs.code.Replay.{GoesWrong, IsStep}
-use Rattle.asm_random.specs.code.ResolvedRuns.{IsDead, rests_in, right_in, shape_in, specification_in}
+use Rattle.asm_random.specs.code.ResolvedRuns.{IsDead, IsPassed, crowds_in, rests_in, right_in, shape_in, specification_in}
 use Rattle.asm_random.specs.declared.position.Position.{Position}
-use Rattle.asm_random.proofs.Endings.{after_more, goes_wrong}
-use Rattle.asm_random.proofs.RightRuns.{right_after, right_first}
+use Rattle.asm_random.proofs.RunsSoFar.{IsFineTo, fine_first, fine_next, fine_run, fine_wrong}
 use Rattle.asm_random.proofs.bad_end.wrong_under.Goals as goal
 
 ok : {X E : Type 0} (r : Result X E) (x : X) (P : X → Type 0) → r ≡ Ok x → IfOk r P → P x
@@ -22,8 +21,9 @@ loop-done-init g c =
     let m = c.args.specified.now in
     record {
       kept = c.in_ok-at.ensures.kept;
-      after = (refl, sym c.in_ok-at.ensures.initial);
-      before = right_first (specification_in m) m.turns (right_in m) (g.P.Picks.script c.args.script.now) c.requires.right;
+      fine = fine_first (specification_in m) m.turns (crowds_in m) (right_in m) (rests_in m) (g.P.Picks.script c.args.script.now) (state_of (shape_in m) c.in_ok-at.at.state)
+          c.in_ok-at.ensures.initial c.requires.right;
+      looked = λ stays. absurd (false≢true (sym c.in_ok-at.ensures.fresh ∙ stays));
     }
 
 pub loop-done-preserved : goal.loop-done-preserved
@@ -35,15 +35,18 @@ loop-done-preserved g c =
     let i = c.loop-done.invariant in
     let done = c.loop-done.done in
     let old = state_of shape c.loop-done.at.state in
-    let new = state_of shape c.in-Ok.next.state in
-    let leads = ok c.in_ok-next.field-0 c.in-Ok.next (λ (next : Position). IsStep spec m.turns script (c.from.result + 1) old (state_of shape next.state)) c.in-Ok.is c.in_ok-next.ensures.step.leads in
+    let next = c.in-Ok.next in
+    let new = state_of shape next.state in
+    let ended = c.in_ok-next in
+    let leads = ok ended.field-0 next (λ (next : Position). IsStep spec m.turns script (c.from.result + 1) old (state_of shape next.state)) c.in-Ok.is ended.ensures.step.leads in
     let step = subst (λ (k : ℕ). IsStep spec m.turns script (k + 1) old new) c.from.ensures leads in
-    let after = after_more spec m.turns script done old new (λ U good. (c.test_laws.ensures.consistency U).1 good) i.after step in
-    let right = ok c.in_ok-next.field-0 c.in-Ok.next (λ (next : Position). right_in m (state_of shape next.state) ≡ true) c.in-Ok.is c.in_ok-next.ensures.right in
+    let right = ok ended.field-0 next (λ (next : Position). right_in m (state_of shape next.state) ≡ true) c.in-Ok.is ended.ensures.right in
+    let passed = ok ended.field-0 next (λ (next : Position). IsPassed m old) c.in-Ok.is (ended.ensures.passed i.looked) in
+    let same = ok ended.field-0 next (λ (next : Position). next.stays ≡ true → next.state ≡ c.loop-done.at.state) c.in-Ok.is ended.ensures.stays in
     record {
-      kept = ok c.in_ok-next.field-0 c.in-Ok.next (λ (next : Position). IsStateOf shape next.state) c.in-Ok.is c.in_ok-next.ensures.step.kept;
-      after = after;
-      before = right_after spec m.turns (right_in m) script done new after right i.before;
+      kept = ok ended.field-0 next (λ (next : Position). IsStateOf shape next.state) c.in-Ok.is ended.ensures.step.kept;
+      fine = fine_next spec m.turns (crowds_in m) (right_in m) (rests_in m) script done old i.fine (λ U good. (c.test_laws.ensures.consistency U).1 good) new step right passed;
+      looked = λ stays. subst (IsPassed m) (ap (state_of shape) (sym (same stays))) passed;
     }
 
 pub returns-in-Err-clause-wrong : goal.returns-in-Err-clause-wrong
@@ -51,16 +54,22 @@ returns-in-Err-clause-wrong g c =
     let m = c.args.specified.now in
     let spec = specification_in m in
     let script = g.P.Picks.script c.args.script.now in
-    let i = c.loop-done.invariant in
-    let done = c.loop-done.done in
     let old = state_of (shape_in m) c.loop-done.at.state in
     let wrong = err c.in_ok-next.field-0 c.in-Err.fault (GoesWrong spec m.turns script (right_in m) (IsDead m) (c.from.result + 1) old) c.in-Err.is c.in_ok-next.ensures.step.wrong in
     let numbered = subst (λ (k : ℕ). GoesWrong spec m.turns script (right_in m) (IsDead m) (k + 1) old c.in-Err.fault) c.from.ensures wrong in
     let tests = c.test_laws.ensures.consistency in
-    record {
-      counted = omega arith;
-      limited = omega (arith, c.loop-done-test.true);
-      wrong = goes_wrong spec m.turns script (right_in m) (rests_in m) done old (λ U good. (tests U).1 good) c.in-Err.fault
-          (λ U bad. false_from_ne_true (is_consistent U) (λ is. bad ((tests U).0 is))) i.after numbered;
-      before = i.before;
-    }
+    fine_wrong spec m.turns (crowds_in m) (right_in m) (rests_in m) script c.loop-done.done old c.loop-done.invariant.fine (λ U good. (tests U).1 good) c.args.steps c.in-Err.fault
+    c.loop-done-test.true (λ U bad. false_from_ne_true (is_consistent U) (λ is. bad ((tests U).0 is))) numbered
+
+pub returns-clause-fine : goal.returns-clause-fine
+returns-clause-fine g c =
+    let m = c.args.specified.now in
+    let spec = specification_in m in
+    let script = g.P.Picks.script c.args.script.now in
+    let A = state_of (shape_in m) c.loop-done.at.state in
+    let steps = c.args.steps in
+    let all : c.loop-done.done ≡ steps = omega (arith, c.loop-done-test.false, c.loop-done.auto.done-end) in
+    let here : steps ≤ steps = omega arith in
+    fine_run spec m.turns (crowds_in m) (right_in m) (rests_in m) script steps A
+    (subst (λ (k : ℕ). IsFineTo spec m.turns (crowds_in m) (right_in m) (rests_in m) script k A) all c.loop-done.invariant.fine)
+    (λ U good. (c.test_laws.ensures.consistency U).1 good) steps here (inl refl)

@@ -4,6 +4,7 @@ use Rattle.asm_syntax.specs.code.Views.{spec_of}
 use Rattle.asm_check.specs.Shapes.{shape_of}
 use Rattle.asm_meaning.specs.Declarations.{specification_of}
 use Rattle.asm_explore.specs.Conditions.{term_holds}
+use Rattle.asm_explore.specs.code.MainRule.{IsMainOverLimit}
 use Rattle.asm_explore.specs.code.ResolvedConditions.{holds_in}
 use Rattle.asm_random.specs.RandomResults.{Claims, Counts}
 use Rattle.asm_random.proofs.random.runs_with.Goals as goal
@@ -22,14 +23,21 @@ result_of_runs-requires g c = record {
 pub returns-clause-claims : goal.returns-clause-claims
 returns-clause-claims g c =
     let q = c.args.question.now in
-    let s = spec_of c.args.checked.now.spec in
-    subst (λ rests. IfOk c.result_of_runs.result (λ answer. Claims (specification_of s) q.turns q.steps (term_holds c.args.checked.now q.always) rests answer.finding))
+    let checked = c.args.checked.now in
+    let s = spec_of checked.spec in
+    let crowds = IsMainOverLimit checked q.turns q.outcomes in
+    subst (λ rests. IfOk c.result_of_runs.result (λ answer. Claims (specification_of s) q.turns crowds q.steps (term_holds checked q.always) rests answer.finding))
     (λ i A. c.in_ok-when_quiet.ensures.means A i)
-    (subst (λ right. IfOk c.result_of_runs.result (λ answer. Claims (specification_of s) q.turns q.steps right (holds_in (shape_of s) c.in_ok-when_quiet.when_quiet) answer.finding))
+    (subst (λ right. IfOk c.result_of_runs.result (λ answer. Claims (specification_of s) q.turns crowds q.steps right (holds_in (shape_of s) c.in_ok-when_quiet.when_quiet) answer.finding))
     (λ i A. c.requires.always.means A i) c.result_of_runs.ensures.claims)
 
 pub returns-clause-counts : goal.returns-clause-counts
 returns-clause-counts g c =
     let q = c.args.question.now in
-    subst (λ right. IfOk c.result_of_runs.result (λ answer. Counts (specification_of (spec_of c.args.checked.now.spec)) q.turns q.steps right q.runs answer.runs answer.steps answer.finding))
-    (λ i A. c.requires.always.means A i) c.result_of_runs.ensures.counts
+    let checked = c.args.checked.now in
+    let s = spec_of checked.spec in
+    let crowds = IsMainOverLimit checked q.turns q.outcomes in
+    subst (λ rests. IfOk c.result_of_runs.result (λ answer. Counts (specification_of s) q.turns crowds q.steps (term_holds checked q.always) rests q.runs answer.runs answer.steps answer.finding))
+    (λ i A. c.in_ok-when_quiet.ensures.means A i)
+    (subst (λ right. IfOk c.result_of_runs.result (λ answer. Counts (specification_of s) q.turns crowds q.steps right (holds_in (shape_of s) c.in_ok-when_quiet.when_quiet) q.runs answer.runs answer.steps answer.finding))
+    (λ i A. c.requires.always.means A i) c.result_of_runs.ensures.counts)
