@@ -1,1 +1,2 @@
 pub mod GrowingFiles
+mod LeftFiles

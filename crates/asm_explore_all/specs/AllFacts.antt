@@ -6,12 +6,13 @@
 --     quiet_files file run            the file that has the text of this script to a quiet state, if
 --                                     one is asked for by its name, and there is a script
 --     IsCrowd text finding lines      of a step with too many outcomes, at which path there are how
---                                     many beside how many others, and maybe where in the text that
---                                     is; at which offset is left free
+--                                     many beside how many others, and maybe line and column of a name
+--                                     of the text: of which one is left free
 --     IsGraphText asked text          the text for Graphviz of the graph of the states
 --     IsDrawn asked file lines made   if a graph is asked for by the name of a file, this file is
 --                                     made and has its text, and nothing is said; or it has more
 --                                     than 2,000 states, which is said, and no file is made
+--     IsBegun asked file old new      if that fails: no file is made, or this one may be cut
 --     AreFacts                        all of them, in order
 use Rattle.std.specs.Prelude.{◌≡◌, ◌⊎◌, ℕ, List, [], ◌∷◌, ◌++◌, length, Option, Some, None, option_map, codes, decimal}
 use Rattle.std.specs.String.{string_bytes}
@@ -34,9 +35,9 @@ use Rattle.asm_explore_texts.specs.Positions.{MayBePosition}
 use Rattle.asm_explore_texts.specs.declared.conditions.Conditions.{Conditions}
 use Rattle.asm_explore_words.specs.declared.settings.Settings.{Settings}
 use Rattle.asm_explore_report.specs.Commands.{command, file_word}
-use Rattle.asm_explore_report.specs.Facts.{always_lines, condition_line, looked_for}
+use Rattle.asm_explore_report.specs.Facts.{always_lines, condition_line, deadlock_words, looked_for}
 use Rattle.asm_explore_report.specs.ShownRuns.{Shown, first_state, shown_bad}
-use Rattle.asm_explore_all.specs.MadeFiles.{MadeFile}
+use Rattle.asm_explore_all.specs.MadeFiles.{Begins, MadeFile, Makes}
 use Rattle.asm_explore_all.specs.declared.checked_question.CheckedQuestion.{CheckedQuestion}
 
 -- ---- conditions
@@ -49,10 +50,6 @@ abbrev pub condition_lines : Conditions → List (List ℕ)
 condition_lines conditions =
     always_lines (texts_of conditions.always.items)
     ++ (optional_line (codes "deadlock unless") (text_of conditions.when_quiet) ++ optional_line (codes "within") (text_of conditions.within))
-
-abbrev pub deadlock_words : Option (List ℕ) → List ℕ
-deadlock_words None = []
-deadlock_words (Some text) = codes ", deadlock"
 
 abbrev pub all_looked_for : Conditions → List ℕ
 all_looked_for conditions = looked_for (length conditions.always.items) ++ deadlock_words (text_of conditions.when_quiet)
@@ -95,7 +92,6 @@ IsCrowd text (finding.SafeTo depth) lines = lines ≡ []
 IsCrowd text (finding.BadStep bad) lines = lines ≡ []
 IsCrowd text finding.WrongFirst lines = lines ≡ []
 IsCrowd text (finding.TooManyStates safe_to) lines = lines ≡ []
-IsCrowd text finding.StatesRepeated lines = lines ≡ []
 IsCrowd text (finding.NoMemory safe_to) lines = lines ≡ []
 IsCrowd text (finding.Unwritten unwritten) lines = lines ≡ []
 
@@ -107,7 +103,6 @@ shown_in finding.WrongFirst = Some first_state
 shown_in finding.Closed = None
 shown_in (finding.SafeTo depth) = None
 shown_in (finding.TooManyStates safe_to) = None
-shown_in finding.StatesRepeated = None
 shown_in (finding.TooManyOutcomes safe_to crowd) = None
 shown_in (finding.NoMemory safe_to) = None
 shown_in (finding.Unwritten unwritten) = None
@@ -142,6 +137,9 @@ module _ (asked : CheckedQuestion) where
   IsDrawn None lines made = (lines ≡ []) × (made ≡ [])
   IsDrawn (Some name) lines made =
       ((text : List ℕ) × IsGraphText text × (lines ≡ []) × (made ≡ (name, text) ∷ [])) ⊎ (HasTooMany × (lines ≡ graph_note ∷ []) × (made ≡ []))
+
+  abbrev pub IsBegun : (file : Option (List ℕ)) → (old new : Option (List MadeFile)) → Type 0
+  IsBegun file old new = Makes old new [] ⊎ ((lines : List (List ℕ)) × (made : List MadeFile) × IsDrawn file lines made × Begins old new made)
 
 -- ---- all of them
 

@@ -4,11 +4,15 @@
 --                                   twice, which is an error of this program, there are none
 --     IsReport                      the first comment says what is found, the others are the facts,
 --                                   and the script is that of the run that is found
---     IsReported                    what is printed says what is found of the specification with
---                                   this text, and these files are made: of the graph of states and
---                                   of the script to the first quiet state
+--     AreFilesOf files              the files for what is found of the specification with this text:
+--                                   of the graph of states and of the script to the first quiet
+--                                   state
+--     IsReported                    what is printed says what is found, and these files are made
 --     IsReportedBy                  the files that are known to be made grow by these
-use Rattle.std.specs.Prelude.{◌≡◌, ℕ, List, ◌++◌, Option, option_map, ⊤}
+--     AreBegunBy                    the files that are known to be made grow by the first of these,
+--                                   where the last one may be cut
+--     LeavesFiles                   if there is no report: no file is made, or they are begun
+use Rattle.std.specs.Prelude.{◌≡◌, ◌⊎◌, ℕ, List, [], ◌++◌, Option, option_map, ⊤}
 use Rattle.asm_state.specs.declared.operation.Op.{Op}
 use Rattle.asm_syntax.specs.code.Views.{spec_of}
 use Rattle.asm_syntax.specs.declared.term.Term.{Term}
@@ -25,7 +29,7 @@ use Rattle.asm_explore_report.specs.declared.report.Report.{Report}
 use Rattle.asm_explore_all.specs.AllFacts.{AreFacts, IsDrawn, quiet_files, shown_in}
 use Rattle.asm_explore_all.specs.CheckedQuestions.{IsExplored}
 use Rattle.asm_explore_all.specs.FindingLine.{first_line}
-use Rattle.asm_explore_all.specs.MadeFiles.{MadeFile, Makes}
+use Rattle.asm_explore_all.specs.MadeFiles.{Begins, MadeFile, Makes}
 use Rattle.asm_explore_all.specs.declared.checked_question.CheckedQuestion.{CheckedQuestion}
 
 abbrev pub status_of : Finding → ℕ
@@ -35,7 +39,6 @@ status_of (finding.BadStep bad) = 1
 status_of finding.WrongFirst = 1
 status_of (finding.Unwritten unwritten) = 1
 status_of (finding.TooManyStates safe_to) = 5
-status_of finding.StatesRepeated = 3
 status_of (finding.TooManyOutcomes safe_to crowd) = 5
 status_of (finding.NoMemory safe_to) = 5
 
@@ -45,7 +48,6 @@ WordsTell checked links turns finding.WrongFirst words = IsBroken checked links 
 WordsTell checked links turns finding.Closed words = ⊤
 WordsTell checked links turns (finding.SafeTo depth) words = ⊤
 WordsTell checked links turns (finding.TooManyStates safe_to) words = ⊤
-WordsTell checked links turns finding.StatesRepeated words = ⊥
 WordsTell checked links turns (finding.TooManyOutcomes safe_to crowd) words = ⊤
 WordsTell checked links turns (finding.NoMemory safe_to) words = ⊤
 WordsTell checked links turns (finding.Unwritten unwritten) words = words ≡ unwritten_words
@@ -58,16 +60,27 @@ module _ (text : List ℕ) (conditions : Conditions) (settings : Settings) where
     pub are_facts : AreFacts text conditions settings answer graph facts
     pub are_printed : IsPrinted text asked.question.turns settings.trace (first_line answer.finding words) facts (shown_in answer.finding) printed
 
-  pub record IsReported (report : Report) (files : List MadeFile) : Type 0 where
+  pub record AreFilesOf (files : List MadeFile) : Type 0 where
     pub answer : ExplorationResult
     pub explored : IsExplored text conditions settings answer
-    pub status : report.status ≡ status_of answer.finding
     -- what is said of the graph, and its file
     pub graph : List (List ℕ)
     pub drawn : List MadeFile
     pub is_drawn : IsDrawn explored.asked (option_map (λ name. name.now) settings.dot) graph drawn
-    pub printed : IsReport explored.asked explored.is_asked.always.links answer graph report.text.items
-    pub made : files ≡ drawn ++ quiet_files (option_map (λ name. name.now) settings.quiet) answer.first_quiet
+    pub are : files ≡ drawn ++ quiet_files (option_map (λ name. name.now) settings.quiet) answer.first_quiet
+
+  pub record IsReported (report : Report) (files : List MadeFile) : Type 0 where
+    pub found : AreFilesOf files
+    pub status : report.status ≡ status_of found.answer.finding
+    pub printed : IsReport found.explored.asked found.explored.is_asked.always.links found.answer found.graph report.text.items
 
   abbrev pub IsReportedBy : (old new : Option (List MadeFile)) → Report → Type 0
   IsReportedBy old new report = (files : List MadeFile) × Makes old new files × IsReported report files
+
+  -- ---- without a report
+
+  abbrev pub AreBegunBy : (old new : Option (List MadeFile)) → Type 0
+  AreBegunBy old new = (files : List MadeFile) × AreFilesOf files × Begins old new files
+
+  abbrev pub LeavesFiles : (old new : Option (List MadeFile)) → Type 0
+  LeavesFiles old new = Makes old new [] ⊎ AreBegunBy old new

@@ -4,7 +4,7 @@
 --                                          terms of the conditions
 --     IsExplored                           what the result claims of the runs of the specification
 --                                          with this text
-use Rattle.std.specs.Prelude.{◌≡◌, ℕ, List, length}
+use Rattle.std.specs.Prelude.{◌≡◌, ℕ, List}
 use Rattle.asm_syntax.specs.code.Views.{spec_of}
 use Rattle.asm_meaning.specs.Declarations.{specification_of}
 use Rattle.asm_run.specs.Headline.{IsAccepted}
@@ -20,9 +20,9 @@ use Rattle.asm_explore_words.specs.declared.settings.Settings.{Settings}
 
 pub record IsAsked (text : List ℕ) (conditions : Conditions) (settings : Settings) (asked : CheckedQuestion) : Type 0 where
   pub accepted : IsAccepted text (spec_of asked.checked.spec)
-  pub always : AreAllAsked text (texts_of conditions.always.items) asked.checked asked.question.always
-  pub when_quiet : MayBeConditionOf text (length asked.checked.spec.items.items) (text_of conditions.when_quiet) asked.question.when_quiet
-  pub within : MayBeConditionOf text (length asked.checked.spec.items.items) (text_of conditions.within) asked.question.within
+  pub always : AreAllAsked (texts_of conditions.always.items) asked.checked asked.question.always
+  pub when_quiet : MayBeConditionOf (spec_of asked.checked.spec) (text_of conditions.when_quiet) asked.question.when_quiet
+  pub within : MayBeConditionOf (spec_of asked.checked.spec) (text_of conditions.within) asked.question.within
   pub turns : asked.question.turns ≡ settings.turns
   pub steps : asked.question.steps ≡ settings.steps
   pub states : asked.question.states ≡ settings.states

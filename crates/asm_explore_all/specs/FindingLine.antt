@@ -19,7 +19,6 @@ first_line (finding.SafeTo depth) words = safe depth
 first_line (finding.BadStep bad) words = fault_line bad.fault bad.step words
 first_line finding.WrongFirst words = first_state_line words
 first_line (finding.TooManyStates safe_to) words = limit_line (codes "too many states") safe_to
-first_line finding.StatesRepeated words = codes "a state was reached twice"
 first_line (finding.TooManyOutcomes safe_to crowd) words = limit_line (codes "too many outcomes") safe_to
 first_line (finding.NoMemory safe_to) words = limit_line (codes "too much memory") safe_to
 first_line (finding.Unwritten unwritten) words = fault_line unwritten.fault unwritten.step words

@@ -1,11 +1,11 @@
 //! What is printed of an exploration of all runs.
-ghost use Rattle.std.specs.Prelude.{◌≡◌, ◌<◌, ◌≤◌, List, IfOk};
+ghost use Rattle.std.specs.Prelude.{◌≡◌, ◌<◌, ◌≤◌, List, IfOk, OnErr};
 ghost use Rattle.asm_state.specs.declared.operation.Op.{Op};
 ghost use Rattle.asm_syntax.specs.code.Views.{spec_of};
 ghost use Rattle.asm_syntax.specs.declared.term.Term.{Term as Code};
 ghost use Rattle.asm_run.specs.Headline.{IsAccepted};
 ghost use Rattle.asm_explore_texts.specs.Conditions.{IsJoined};
-ghost use Rattle.asm_explore_all.specs.AllReport.{IsReport, IsReportedBy, WordsTell, status_of as found_status};
+ghost use Rattle.asm_explore_all.specs.AllReport.{IsReport, IsReportedBy, LeavesFiles, WordsTell, status_of as found_status};
 ghost use Rattle.asm_explore_all.specs.CheckedQuestions.{IsAsked};
 ghost use Rattle.asm_explore_all.specs.code.GraphFiles.{graph_lines};
 
@@ -34,7 +34,6 @@ fn status_of(finding: &Finding) -> u8
     match finding {
         Finding::Closed | Finding::SafeTo(_) => 0,
         Finding::BadStep(_) | Finding::WrongFirst | Finding::Unwritten(_) => 1,
-        Finding::StatesRepeated => 3,
         Finding::TooManyStates(_) | Finding::TooManyOutcomes { .. } | Finding::NoMemory(_) => 5,
     }
 }
@@ -54,7 +53,6 @@ fn words_of<'w, R: Threads + Sync>(
         Finding::BadStep(bad) => bad_words(rt, alloc, text, subject, bad),
         Finding::WrongFirst => first_words(alloc, subject),
         Finding::Unwritten(_) => Ok(Vec::from_slice(alloc, UNWRITTEN)?),
-        Finding::StatesRepeated => Err(Fault::StatesRepeated),
         Finding::Closed
         | Finding::SafeTo(_)
         | Finding::TooManyStates(_)
@@ -124,7 +122,8 @@ fn reported<'w, R: Threads + Sync, F: NewFiles, W: Watch<Progress>>(
     watch: &mut W,
 ) -> Result<Report, Fault<'w>>
     requires asked { IsAsked text.now conditions.now settings.now asked.now }
-    ensures { IfOk result (IsReportedBy text.now conditions.now settings.now (F.made files.old) (F.made files.new)) }
+    ensures reported { IfOk result (IsReportedBy text.now conditions.now settings.now (F.made files.old) (F.made files.new)) }
+    ensures left { OnErr result (LeavesFiles text.now conditions.now settings.now (F.made files.old) (F.made files.new)) }
 {
     let workers = workers_of(settings);
     let (checked, question) = (&asked.checked, &asked.question);
@@ -149,7 +148,8 @@ pub fn all_report<'w, R: Threads + Sync, F: NewFiles, W: Watch<Progress>>(
     settings: &Settings<'w>,
     watch: &mut W,
 ) -> Result<Report, Fault<'w>>
-    ensures { IfOk result (IsReportedBy text.now conditions.now settings.now (F.made files.old) (F.made files.new)) }
+    ensures reported { IfOk result (IsReportedBy text.now conditions.now settings.now (F.made files.old) (F.made files.new)) }
+    ensures left { OnErr result (LeavesFiles text.now conditions.now settings.now (F.made files.old) (F.made files.new)) }
 {
     let asked = ask(alloc, text, conditions, settings)?;
     let report = reported(rt, files, alloc, text, &asked, conditions, settings, watch);

@@ -1,5 +1,5 @@
 //! What is asked of all runs of a specification, from the texts.
-ghost use Rattle.std.specs.Prelude.{IfOk};
+ghost use Rattle.std.specs.Prelude.{ℕ, List, IfOk};
 ghost use Rattle.asm_syntax.specs.code.Views.{spec_of};
 ghost use Rattle.asm_run.specs.Headline.{IsAccepted};
 ghost use Rattle.asm_explore_all.specs.CheckedQuestions.{IsAsked};
@@ -31,7 +31,7 @@ pub fn ask<'w>(
     ensures { IfOk result (IsAsked text.now conditions.now settings.now) }
 {
     let checked = checked(alloc, text, settings.spec)?;
-    match question_of(alloc, text, &checked, conditions, settings) {
+    match question_of(alloc, &checked, conditions, settings) {
         Ok(question) => Ok(CheckedQuestion { checked, question }),
         Err(fault) => {
             drop(checked);
@@ -40,20 +40,18 @@ pub fn ask<'w>(
     }
 }
 
-/// What the settings ask of a specification, which has this text, by these conditions.
+/// What the settings ask of a specification by these conditions.
 fn question_of<'w>(
     alloc: Global,
-    text: &[u8],
     checked: &Checked,
     conditions: &Conditions<'w>,
     settings: &Settings<'w>,
 ) -> Result<Question, Fault<'w>>
-    requires accepted { IsAccepted text.now (spec_of checked.now.spec) }
-    ensures { IfOk result (λ question. IsAsked text.now conditions.now settings.now (record { checked = checked.now; question = question })) }
+    ensures { IfOk result (λ question. (text : List ℕ) → IsAccepted text (spec_of checked.now.spec)
+        → IsAsked text conditions.now settings.now (record { checked = checked.now; question = question })) }
 {
-    let items = checked.spec.items.len();
-    let always = all_asked(alloc, text, checked, conditions.always.as_slice())?;
-    match other_terms(alloc, text, items, conditions) {
+    let always = all_asked(alloc, checked, conditions.always.as_slice())?;
+    match other_terms(alloc, checked, conditions) {
         Ok(terms) => Ok(Question {
             always,
             within: terms.within,
@@ -77,19 +75,17 @@ struct OtherTerms {
     when_quiet: Option<Term>,
 }
 
-/// The terms of the conditions that aren't to be true in each state, over the specification with
-/// this text, which has `items` items.
+/// The terms of the conditions that aren't to be true in each state, over the specification.
 fn other_terms<'w>(
     alloc: Global,
-    text: &[u8],
-    items: usize,
+    checked: &Checked,
     conditions: &Conditions<'w>,
 ) -> Result<OtherTerms, Fault<'w>>
-    ensures within { IfOk result (λ terms. MayBeConditionOf text.now items (text_of conditions.now.within) terms.within) }
-    ensures when_quiet { IfOk result (λ terms. MayBeConditionOf text.now items (text_of conditions.now.when_quiet) terms.when_quiet) }
+    ensures within { IfOk result (λ terms. MayBeConditionOf (spec_of checked.now.spec) (text_of conditions.now.within) terms.within) }
+    ensures when_quiet { IfOk result (λ terms. MayBeConditionOf (spec_of checked.now.spec) (text_of conditions.now.when_quiet) terms.when_quiet) }
 {
-    let within = optional_term(alloc, text, items, &conditions.within)?;
-    match optional_term(alloc, text, items, &conditions.when_quiet) {
+    let within = optional_term(alloc, checked, &conditions.within)?;
+    match optional_term(alloc, checked, &conditions.when_quiet) {
         Ok(when_quiet) => Ok(OtherTerms { within, when_quiet }),
         Err(fault) => {
             drop(within);

@@ -18,7 +18,7 @@ use asm_explore_report::command::{command, push_file_word};
 use asm_explore_report::facts::{add, add_always, add_condition, add_text, looked_for};
 use asm_explore_report::shown_run::{ShownRun, first_state, run_of};
 use asm_explore_texts::conditions::{Condition, Conditions};
-use asm_explore_texts::position_text::push_position;
+use asm_explore_texts::position_text::{is_name_at, push_position};
 use asm_explore_texts::rule_in_text::rule_in_text;
 use asm_explore_words::settings::Settings;
 use asm_run::locations::push_path;
@@ -126,7 +126,7 @@ fn add_counts(
     Ok(())
 }
 
-/// Where in the text a rule is whose step has too many outcomes, if it is there.
+/// Where in the text a rule is whose step has too many outcomes, if the text has a name there.
 fn position_of(
     alloc: Global,
     text: &[u8],
@@ -136,11 +136,14 @@ fn position_of(
     ensures { IfOk result (λ position. MayBePosition text.now position.items) }
 {
     let mut position = Vec::new(alloc);
-    if let Some(found) = rule_in_text(alloc, checked, path)? {
-        push_position(alloc, &mut position, text, found.name.at)?;
-        position.extend_from_slice(b", ")?;
+    match rule_in_text(alloc, checked, path)? {
+        Some(rule) if is_name_at(text, rule.name.at) => {
+            push_position(alloc, &mut position, text, rule.name.at)?;
+            position.extend_from_slice(b", ")?;
+            Ok(position)
+        }
+        _ => Ok(position),
     }
-    Ok(position)
 }
 
 /// The line that says of which rule a step has too many outcomes, and how many.

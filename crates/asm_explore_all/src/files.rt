@@ -1,6 +1,6 @@
 //! Files that are made.
-ghost use Rattle.std.specs.Prelude.{◌∷◌, [], List, Option, OnOk};
-ghost use Rattle.asm_explore_all.specs.MadeFiles.{MadeFile, Makes};
+ghost use Rattle.std.specs.Prelude.{◌∷◌, [], List, Option, OnErr, OnOk};
+ghost use Rattle.asm_explore_all.specs.MadeFiles.{Begins, MadeFile, Makes};
 
 use std::io;
 
@@ -12,5 +12,6 @@ pub trait NewFiles {
     /// Makes a file of this name, which has these bytes. What a file of this name had is gone, even
     /// if the new one can't be written.
     fn make(&mut self, name: &str, bytes: &[u8]) -> io::Result<()>
-        ensures made { OnOk result (Makes (made self.old) (made self.new) ((name.now, bytes.now) ∷ [])) };
+        ensures made { OnOk result (Makes (made self.old) (made self.new) ((name.now, bytes.now) ∷ [])) }
+        ensures begun { OnErr result (Begins (made self.old) (made self.new) ((name.now, bytes.now) ∷ [])) };
 }

@@ -32,7 +32,6 @@ pub(crate) fn finding_line(
         Finding::BadStep(bad) => of_fault(alloc, bad.fault, bad.step, words),
         Finding::WrongFirst => of_first(alloc, words),
         Finding::TooManyStates(safe) => of_limit(alloc, "too many states", *safe),
-        Finding::StatesRepeated => Vec::from_slice(alloc, b"a state was reached twice"),
         Finding::TooManyOutcomes { safe, .. } => of_limit(alloc, "too many outcomes", *safe),
         Finding::NoMemory(safe) => of_limit(alloc, "too much memory", *safe),
         Finding::Unwritten(unwritten) => of_fault(alloc, unwritten.fault, unwritten.step, words),

@@ -1,7 +1,7 @@
 //! The graph of states, written to a file.
-ghost use Rattle.std.specs.Prelude.{List, option_map, IfNone, IfOk, IfSome};
+ghost use Rattle.std.specs.Prelude.{List, option_map, IfNone, IfOk, IfSome, OnErr};
 ghost use Rattle.std.specs.String.{string_bytes};
-ghost use Rattle.asm_explore_all.specs.AllFacts.{HasTooMany, IsDrawn, IsGraphText};
+ghost use Rattle.asm_explore_all.specs.AllFacts.{HasTooMany, IsBegun, IsDrawn, IsGraphText};
 ghost use Rattle.asm_explore_all.specs.MadeFiles.{MadeFile, Makes};
 ghost use Rattle.asm_explore_all.specs.code.GraphFiles.{graph_lines};
 
@@ -47,8 +47,9 @@ pub(crate) fn draw<'w, F: NewFiles>(
     asked: &CheckedQuestion,
     name: Option<&'w str>,
 ) -> Result<GraphFile, Fault<'w>>
-    ensures { IfOk result (λ drawing. (made : List MadeFile) × Makes (F.made files.old) (F.made files.new) made
+    ensures drawn { IfOk result (λ drawing. (made : List MadeFile) × Makes (F.made files.old) (F.made files.new) made
         × IsDrawn asked.now (option_map (λ name. name.now) name.entry) (graph_lines drawing) made) }
+    ensures begun { OnErr result (IsBegun asked.now (option_map (λ name. name.now) name.entry) (F.made files.old) (F.made files.new)) }
 {
     let Some(name) = name else {
         return Ok(GraphFile::NotAsked);

@@ -1,7 +1,7 @@
 //! The script to the first quiet state, written to a file.
-ghost use Rattle.std.specs.Prelude.{option_map, OnOk};
+ghost use Rattle.std.specs.Prelude.{option_map, OnErr, OnOk};
 ghost use Rattle.asm_explore_all.specs.AllFacts.{quiet_files};
-ghost use Rattle.asm_explore_all.specs.MadeFiles.{Makes};
+ghost use Rattle.asm_explore_all.specs.MadeFiles.{Begins, Makes};
 
 use crate::files::NewFiles;
 use asm_explore::QuietRun;
@@ -15,7 +15,8 @@ pub(crate) fn write_script<'w, F: NewFiles>(
     run: &Option<QuietRun>,
     name: Option<&'w str>,
 ) -> Result<(), Fault<'w>>
-    ensures { OnOk result (Makes (F.made files.old) (F.made files.new) (quiet_files (option_map (λ name. name.now) name.entry) run.now)) }
+    ensures made { OnOk result (Makes (F.made files.old) (F.made files.new) (quiet_files (option_map (λ name. name.now) name.entry) run.now)) }
+    ensures begun { OnErr result (Begins (F.made files.old) (F.made files.new) (quiet_files (option_map (λ name. name.now) name.entry) run.now)) }
 {
     let Some(name) = name else {
         return Ok(());

@@ -14,16 +14,12 @@ use Rattle.asm_explore_texts.specs.Conditions.{text_of, texts_of}
 use Rattle.asm_explore_texts.specs.declared.conditions.Conditions.{Conditions}
 use Rattle.asm_explore_words.specs.declared.settings.RandomSettings.{RandomSettings}
 use Rattle.asm_explore_report.specs.Commands.{command}
-use Rattle.asm_explore_report.specs.Facts.{always_lines, condition_line, looked_for}
+use Rattle.asm_explore_report.specs.Facts.{always_lines, condition_line, deadlock_words, looked_for}
 use Rattle.asm_explore_report.specs.ShownRuns.{Shown, first_state, shown_bad}
 
 abbrev pub quiet_lines : Option (List ℕ) → List (List ℕ)
 quiet_lines None = []
 quiet_lines (Some text) = condition_line (codes "deadlock unless") text ∷ []
-
-abbrev pub deadlock_words : Option (List ℕ) → List ℕ
-deadlock_words None = []
-deadlock_words (Some text) = codes ", deadlock"
 
 abbrev pub looked_for_words : Conditions → List ℕ
 looked_for_words conditions = looked_for (length conditions.always.items) ++ deadlock_words (text_of conditions.when_quiet)

@@ -10,13 +10,14 @@
 --                                the script is that of the run that is found
 --     IsRandomReported           what is printed says what is found of the specification with this
 --                                text
-use Rattle.std.specs.Prelude.{◌≡◌, ℕ, List, ◌++◌, length, codes, decimal, ⊤}
+use Rattle.std.specs.Prelude.{◌≡◌, ℕ, List, ◌++◌, codes, decimal, ⊤}
 use Rattle.asm_state.specs.declared.operation.Op.{Op}
 use Rattle.asm_syntax.specs.code.Views.{spec_of}
 use Rattle.asm_syntax.specs.declared.term.Term.{Term}
 use Rattle.asm_check.specs.declared.checked.Checked.{Checked}
 use Rattle.asm_meaning.specs.Declarations.{specification_of}
 use Rattle.asm_explore.specs.Conditions.{term_holds}
+use Rattle.asm_explore.specs.code.MainRule.{IsMainOverLimit}
 use Rattle.asm_random.specs.RandomResults.{Claims, Counts}
 use Rattle.asm_random.specs.declared.random_result.RandomResult.{RandomResult}
 use Rattle.asm_random.specs.declared.random_result.RandomFinding.{RandomFinding}
@@ -35,8 +36,8 @@ use Rattle.asm_explore_random.specs.RandomFacts.{random_facts, shown_in}
 
 pub record IsRandomAsked (text : List ℕ) (conditions : Conditions) (settings : RandomSettings) (asked : CheckedRandomQuestion) : Type 0 where
   pub accepted : IsAccepted text (spec_of asked.checked.spec)
-  pub always : AreAllAsked text (texts_of conditions.always.items) asked.checked asked.question.always
-  pub when_quiet : MayBeConditionOf text (length asked.checked.spec.items.items) (text_of conditions.when_quiet) asked.question.when_quiet
+  pub always : AreAllAsked (texts_of conditions.always.items) asked.checked asked.question.always
+  pub when_quiet : MayBeConditionOf (spec_of asked.checked.spec) (text_of conditions.when_quiet) asked.question.when_quiet
   pub turns : asked.question.turns ≡ settings.turns
   pub steps : asked.question.steps ≡ settings.steps
   pub runs : asked.question.runs ≡ settings.runs
@@ -79,10 +80,10 @@ module _ (text : List ℕ) (conditions : Conditions) (settings : RandomSettings)
     -- what the finding says of the runs of the specification with this text
     pub claims :
         let q = asked.question in
-        Claims (specification_of (spec_of asked.checked.spec)) q.turns q.steps (term_holds asked.checked q.always) (term_holds asked.checked q.when_quiet) answer.finding
+        Claims (specification_of (spec_of asked.checked.spec)) q.turns (IsMainOverLimit asked.checked q.turns q.outcomes) q.steps (term_holds asked.checked q.always) (term_holds asked.checked q.when_quiet) answer.finding
     -- how many runs and steps were made, and that those before it have no fault
     pub counts :
         let q = asked.question in
-        Counts (specification_of (spec_of asked.checked.spec)) q.turns q.steps (term_holds asked.checked q.always) q.runs answer.runs answer.steps answer.finding
+        Counts (specification_of (spec_of asked.checked.spec)) q.turns (IsMainOverLimit asked.checked q.turns q.outcomes) q.steps (term_holds asked.checked q.always) (term_holds asked.checked q.when_quiet) q.runs answer.runs answer.steps answer.finding
     pub status : report.status ≡ random_status answer.finding
     pub printed : IsRandomReport asked is_asked.always.links answer report.text.items

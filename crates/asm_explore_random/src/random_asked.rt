@@ -1,5 +1,5 @@
 //! What is asked of random runs of a specification, from the texts.
-ghost use Rattle.std.specs.Prelude.{◌≡◌, IfOk};
+ghost use Rattle.std.specs.Prelude.{◌≡◌, ℕ, List, IfOk};
 ghost use Rattle.asm_syntax.specs.code.Views.{spec_of};
 ghost use Rattle.asm_run.specs.Headline.{IsAccepted};
 ghost use Rattle.asm_explore_random.specs.RandomReport.{IsRandomAsked};
@@ -29,7 +29,7 @@ pub fn ask_random<'w>(
     ensures { IfOk result (IsRandomAsked text.now conditions.now settings.now) }
 {
     let checked = checked(alloc, text, settings.spec)?;
-    match question_of(alloc, text, &checked, conditions, settings) {
+    match question_of(alloc, &checked, conditions, settings) {
         Ok(question) => Ok(CheckedRandomQuestion { checked, question }),
         Err(fault) => {
             drop(checked);
@@ -45,21 +45,19 @@ fn turns_of(settings: &RandomSettings<'_>) -> u32
     settings.turns
 }
 
-/// What the settings ask of a specification, which has this text, by these conditions.
+/// What the settings ask of a specification by these conditions.
 fn question_of<'w>(
     alloc: Global,
-    text: &[u8],
     checked: &Checked,
     conditions: &Conditions<'w>,
     settings: &RandomSettings<'w>,
 ) -> Result<RandomQuestion, Fault<'w>>
-    requires accepted { IsAccepted text.now (spec_of checked.now.spec) }
-    ensures { IfOk result (λ question. IsRandomAsked text.now conditions.now settings.now (record { checked = checked.now; question = question })) }
+    ensures { IfOk result (λ question. (text : List ℕ) → IsAccepted text (spec_of checked.now.spec)
+        → IsRandomAsked text conditions.now settings.now (record { checked = checked.now; question = question })) }
 {
     let turns = turns_of(settings);
-    let items = checked.spec.items.len();
-    let always = all_asked(alloc, text, checked, conditions.always.as_slice())?;
-    match optional_term(alloc, text, items, &conditions.when_quiet) {
+    let always = all_asked(alloc, checked, conditions.always.as_slice())?;
+    match optional_term(alloc, checked, &conditions.when_quiet) {
         Ok(when_quiet) => Ok(RandomQuestion {
             always,
             when_quiet,

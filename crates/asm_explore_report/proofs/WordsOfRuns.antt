@@ -10,16 +10,17 @@ use Rattle.asm_check.specs.declared.checked.Checked.{Checked}
 use Rattle.asm_reader.specs.ScriptLines.{Script}
 use Rattle.asm_reader.specs.ScriptText.{IsScript}
 use Rattle.asm_meaning.specs.Declarations.{specification_of}
+use Rattle.asm_explore.specs.Search.{steps_to}
 use Rattle.asm_explore.specs.declared.fault.Fault.{Fault}
 use Rattle.asm_explore.specs.declared.fault.Fault.TheVariants.{Exhausted, Inconsistent, Wrong, Deadlock}
 use Rattle.asm_run.specs.Headline.{book_run}
 use Rattle.asm_run.specs.Written.{names_in}
 use Rattle.asm_explore_report.specs.EndWords.{IsEndWords}
 use Rattle.asm_explore_report.specs.Replay.{IsAfter}
-use Rattle.asm_explore_report.specs.FaultWords.{FaultTells, IsBroken, shown_after}
+use Rattle.asm_explore_report.specs.FaultWords.{FaultTells, IsBroken}
 
 pub end_tells : (checked : Checked) (links : List (Op × Term)) (turns : ℕ) (fault : Fault) (text : List ℕ) (step : ℕ) (words : List ℕ) → (fault ≡ Exhausted) ⊎ (fault ≡ Inconsistent)
-    → ((script : Script) → IsScript text script → IsEndWords (names_in (spec_of checked.spec)) (book_run (spec_of checked.spec) turns script (shown_after fault step)).end words)
+    → ((script : Script) → IsScript text script → IsEndWords (names_in (spec_of checked.spec)) (book_run (spec_of checked.spec) turns script (steps_to fault step)).end words)
     → FaultTells checked links turns fault text step words
 end_tells checked links turns Exhausted text step words is told = told
 end_tells checked links turns Inconsistent text step words is told = told
@@ -29,7 +30,7 @@ end_tells checked links turns Deadlock text step words (inl is) told = cc
 end_tells checked links turns Deadlock text step words (inr is) told = cc
 
 pub wrong_tells : (checked : Checked) (links : List (Op × Term)) (turns : ℕ) (fault : Fault) (text : List ℕ) (step : ℕ) (A : State) (words : List ℕ) → fault ≡ Wrong
-    → ((script : Script) → IsScript text script → IsAfter (specification_of (spec_of checked.spec)) turns script (shown_after fault step) A)
+    → ((script : Script) → IsScript text script → IsAfter (specification_of (spec_of checked.spec)) turns script (steps_to fault step) A)
     → IsBroken checked links A words → FaultTells checked links turns fault text step words
 wrong_tells checked links turns Exhausted text step A words is after broken = cc
 wrong_tells checked links turns Inconsistent text step A words is after broken = cc

@@ -9,13 +9,14 @@
 --                                     long behind the first comment
 --     IsWithoutScript                 the lines are left out, since they have no text
 --     IsCommentedScript               all of it, or the lines alone, which are no longer than a
---                                     script may be
+--                                     script may be; none of their numbers has more than nine
+--                                     digits
 --     IsCommentedText                 the one or the other
 use Rattle.std.specs.Prelude.{◌≡◌, ◌⊎◌, ◌<◌, ◌≤◌, ℕ, List, [], ◌∷◌, ◌++◌, length, map, codes}
 use Rattle.std.specs.List.{flat_map}
 use Rattle.asm_reader.specs.ScriptLines.{Line}
 use Rattle.asm_reader.specs.ScriptText.{max_script}
-use Rattle.asm_explore.specs.code.WrittenScripts.{AnyIsLong, line_said, line_text, lines_text, numbers_in}
+use Rattle.asm_explore.specs.code.WrittenScripts.{AnyIsLong, AreShort, line_said, line_text, lines_text, numbers_in}
 use Rattle.asm_explore_report.specs.Comments.{comments, lines_of}
 use Rattle.asm_explore_report.specs.Printed.{behind_first, left_out}
 use Rattle.asm_explore_report.specs.declared.commented.Entry.{Entry}
@@ -50,7 +51,7 @@ IsWithoutScript first lines text = HasNoText first lines × (text ≡ without_sc
 abbrev pub IsCommentedScript : (first : List ℕ) → (entries : List Entry) → (last : List (List ℕ)) → (text : List ℕ) → Type 0
 IsCommentedScript first entries last text =
     let whole = comments (first ∷ []) ++ commented entries last in
-    (length text ≤ max_script) × ((text ≡ whole) ⊎ ((max_script < length whole) × (text ≡ script_alone first (lines_text (said_by entries)))))
+    AreShort (numbers_in (said_by entries)) × (length text ≤ max_script) × ((text ≡ whole) ⊎ ((max_script < length whole) × (text ≡ script_alone first (lines_text (said_by entries)))))
 
 abbrev pub IsCommentedText : (first : List ℕ) → (entries : List Entry) → (last : List (List ℕ)) → (text : List ℕ) → Type 0
 IsCommentedText first entries last text = IsCommentedScript first entries last text ⊎ IsWithoutScript first (said_by entries) text

@@ -4,7 +4,9 @@
 --     always_lines texts          the conditions that are to be true in each state, by their numbers
 --     looked_for conditions       which faults are looked for, if so many conditions are to be true
 --                                 in each state
-use Rattle.std.specs.Prelude.{ℕ, zero, suc, List, [], ◌∷◌, ◌++◌, cond, length, nat_lt, take, codes, decimal}
+--     deadlock_words condition    a deadlock is one of them, if there is a condition for quiet
+--                                 states
+use Rattle.std.specs.Prelude.{ℕ, zero, suc, List, [], ◌∷◌, ◌++◌, cond, length, Option, Some, None, nat_lt, take, codes, decimal}
 
 abbrev pub front_of : List ℕ → List ℕ
 front_of text = take 200 text ++ cond (nat_lt 200 (length text)) (codes " ..") []
@@ -27,3 +29,7 @@ numbered_from number (suc count) = codes ", condition " ++ (decimal number ++ nu
 
 abbrev pub looked_for : (conditions : ℕ) → List ℕ
 looked_for conditions = codes "looked for: clash, outside, exhausted" ++ numbered_from 1 conditions
+
+abbrev pub deadlock_words : Option (List ℕ) → List ℕ
+deadlock_words None = []
+deadlock_words (Some text) = codes ", deadlock"

@@ -2,13 +2,11 @@
 --     value_in checked t A             the value of a term in a state, with no name bound
 --     IsBroken checked links A words   of the conditions the first that isn't true in the state:
 --                                      its number, from 1, and its value
---     shown_after fault step           how many steps of the run show a fault of this step; a
---                                      deadlock is the state that it begins in
 --     unwritten_words                  what is said of a run whose script can't be written
 --     FaultTells, BadTells             of a run that was found the words are those for its end, as
 --                                      its trace has them, or of its last state; a deadlock is
 --                                      called so
-use Rattle.std.specs.Prelude.{◌≡◌, ℕ, suc, ◌-◌, true, false, List, ◌∷◌, ◌++◌, length, codes, decimal}
+use Rattle.std.specs.Prelude.{◌≡◌, ℕ, suc, true, false, List, ◌∷◌, ◌++◌, length, codes, decimal}
 use Rattle.std.specs.String.{string_bytes}
 use Rattle.std.specs.List.{list_all}
 use Rattle.asm_state.specs.Location.{State}
@@ -49,12 +47,6 @@ pub record IsBroken (checked : Checked) (links : List (Op × Term)) (A : State) 
 
 abbrev pub unwritten_words : List ℕ
 unwritten_words = codes "its script can't be written"
-
-abbrev pub shown_after : Fault → (step : ℕ) → ℕ
-shown_after Exhausted step = step
-shown_after Inconsistent step = step
-shown_after Wrong step = step
-shown_after Deadlock step = step - 1
 
 module _ (checked : Checked) (links : List (Op × Term)) (turns : ℕ) where
   -- of the run under the script with this text

@@ -6,8 +6,8 @@
 --     first_state           the run of no steps
 use Rattle.std.specs.Prelude.{ℕ, List, [], Option, Some, None, option_map}
 use Rattle.std.specs.String.{string_bytes}
+use Rattle.asm_explore.specs.Search.{steps_to}
 use Rattle.asm_explore.specs.declared.exploration_result.BadRun.{BadRun}
-use Rattle.asm_explore_report.specs.FaultWords.{shown_after}
 use Rattle.asm_explore_report.specs.declared.shown_run.ShownRun.{ShownRun}
 
 abbrev pub Shown : Type 0
@@ -24,7 +24,7 @@ script_of None = []
 script_of (Some run) = run.0
 
 abbrev pub shown_bad : BadRun → Shown
-shown_bad bad = (string_bytes bad.script, shown_after bad.fault bad.step)
+shown_bad bad = (string_bytes bad.script, steps_to bad.fault bad.step)
 
 abbrev pub first_state : Shown
 first_state = ([], 0)

@@ -53,19 +53,16 @@ pub fn checked<'w>(alloc: Global, text: &[u8], name: &'w str) -> Result<Checked,
     }
 }
 
-/// The term that is true just when each of the conditions is, over the specification with this
-/// text.
+/// The term that is true just when each of the conditions is, over the specification.
 pub fn all_asked<'w>(
     alloc: Global,
-    text: &[u8],
     checked: &Checked,
     conditions: &[Condition<'w>],
 ) -> Result<Option<Term>, Fault<'w>>
-    ensures { IfOk result (AreAllAsked text.now (texts_of conditions.now) checked.now) }
+    ensures { IfOk result (AreAllAsked (texts_of conditions.now) checked.now) }
 {
     joined_law(checked);
-    let items = checked.spec.items.len();
-    let links = links(alloc, text, items, conditions)?;
+    let links = links(alloc, checked, conditions)?;
     let term = joined(alloc, links)?;
     Ok(term)
 }

@@ -114,7 +114,7 @@ fn longest(
     last: &[Vec<u8>],
     alone: &[u8],
 ) -> Result<Vec<u8>, InputError<WritingError>>
-    requires { alone.now ≡ lines_text (said_by entries.now) }
+    requires { IsTextOf (said_by entries.now) alone.now }
     ensures text { IfOk result (λ text. IsCommentedText first.now entries.now (lines_of last.now) text.items) }
     ensures refused { IfErr result (IsTextRefusal (numbers_in (said_by entries.now)) (lines_text (said_by entries.now))) }
 {

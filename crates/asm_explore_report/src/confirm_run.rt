@@ -4,10 +4,10 @@ ghost use Rattle.std.specs.String.{string_bytes};
 ghost use Rattle.asm_syntax.specs.code.Views.{spec_of};
 ghost use Rattle.asm_reader.specs.ScriptLines.{Script};
 ghost use Rattle.asm_reader.specs.ScriptText.{IsScript};
+ghost use Rattle.asm_explore.specs.Search.{steps_to};
 ghost use Rattle.asm_run.specs.Headline.{IsAccepted, book_run};
 ghost use Rattle.asm_run.specs.Written.{names_in};
 ghost use Rattle.asm_explore_report.specs.EndWords.{IsEndWords};
-ghost use Rattle.asm_explore_report.specs.FaultWords.{shown_after};
 ghost use Rattle.asm_explore_report.specs.RunEnds.{IsEndOf, IsTraceOf};
 
 use crate::ended::{EndedRun, ended_run};
@@ -63,7 +63,7 @@ pub(crate) fn end_words<'w, R: Threads + Sync>(
 ) -> Result<Vec<u8>, Fault<'w>>
     ensures { let s = spec_of checked.now.spec in
         IsAccepted text.now s → (script : Script) → IsScript (string_bytes bad.now.script) script →
-        IfOk result (λ words. IsEndWords (names_in s) (book_run s turns script (shown_after bad.now.fault bad.now.step)).end words.items) }
+        IfOk result (λ words. IsEndWords (names_in s) (book_run s turns script (steps_to bad.now.fault bad.now.step)).end words.items) }
 {
     one_tree();
     one_script();

@@ -13,10 +13,11 @@ ghost use Rattle.asm_check.specs.Shapes.{shape_of};
 ghost use Rattle.asm_reader.specs.ScriptLines as lines;
 ghost use Rattle.asm_reader.specs.ScriptText.{IsScript};
 ghost use Rattle.asm_meaning.specs.Declarations.{specification_of};
+ghost use Rattle.asm_explore.specs.Search.{steps_to};
 ghost use Rattle.asm_run.specs.Headline.{IsAccepted};
 ghost use Rattle.asm_explore_texts.specs.Conditions.{IsJoined};
 ghost use Rattle.asm_explore_report.specs.Replay.{IsAfter};
-ghost use Rattle.asm_explore_report.specs.FaultWords.{BadTells, IsBroken, shown_after};
+ghost use Rattle.asm_explore_report.specs.FaultWords.{BadTells, IsBroken};
 
 use crate::broken_condition::broken_in;
 use crate::confirm_run::end_words;
@@ -60,7 +61,7 @@ fn words_in<'w>(alloc: Global, subject: &Subject<'_>, state: &State) -> Result<V
 fn last_state<'w>(alloc: Global, subject: &Subject<'_>, bad: &BadRun) -> Result<State, Fault<'w>>
     ensures whole { IfOk result (λ s. length s ≡ count_of (shape_of (spec_of subject.now.checked.now.spec))) }
     ensures after { let s = spec_of subject.now.checked.now.spec in (script : lines.Script) → IsScript (string_bytes bad.now.script) script →
-        IfOk result (λ A. IsAfter (specification_of s) subject.now.turns script (shown_after bad.now.fault bad.now.step) (state_of (shape_of s) A)) }
+        IfOk result (λ A. IsAfter (specification_of s) subject.now.turns script (steps_to bad.now.fault bad.now.step) (state_of (shape_of s) A)) }
 {
     let Ok(steps) = u32::try_from(run_of(bad).steps) else {
         return Err(Fault::Unconfirmed);

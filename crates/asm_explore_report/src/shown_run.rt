@@ -1,6 +1,6 @@
 //! The run that a report shows.
 ghost use Rattle.std.specs.Prelude.{◌≡◌};
-ghost use Rattle.asm_explore_report.specs.FaultWords.{shown_after};
+ghost use Rattle.asm_explore.specs.Search.{steps_to};
 ghost use Rattle.asm_explore_report.specs.ShownRuns.{first_state as first_shown, shown, shown_bad};
 
 use asm_explore::{BadRun, Fault};
@@ -14,7 +14,7 @@ pub struct ShownRun<'r> {
 
 /// How many steps of the run under the script show the fault.
 fn steps_shown(fault: Fault, step: u64) -> u64
-    ensures { result ≡ shown_after fault step }
+    ensures { result ≡ steps_to fault step }
 {
     match fault {
         Fault::Exhausted | Fault::Inconsistent | Fault::Wrong => step,

@@ -1,7 +1,7 @@
+mod BoundNames
 mod ChoiceEntries
 mod ClashLines
 mod KeySets
-mod LineFields
 mod RunStatuses
 mod ShortLines
 mod UnmetTexts

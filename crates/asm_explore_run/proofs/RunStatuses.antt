@@ -15,8 +15,8 @@ use Rattle.asm_clash.specs.Standing.{assigned_of}
 use Rattle.asm_clash.specs.declared.clash.ClashOfRun.{ClashOfRun}
 use Rattle.asm_clash.specs.declared.clash.ClashOfRun.TheVariants as clash
 use Rattle.asm_explore_run.specs.ClashText.{greatest_shown}
-use Rattle.asm_explore_run.specs.code.EndStatuses.{status_with}
-use Rattle.asm_explore_run.specs.RunReport.{assignments_in, choices_status, clash_status, count_in, status_of_end}
+use Rattle.asm_explore_run.specs.code.EndStatuses.{clash_status, status_with}
+use Rattle.asm_explore_run.specs.RunReport.{assignments_in, choices_status, count_in, status_of_end}
 
 none_or_some : (unmet : List (List ℕ)) → cond (length unmet == 0) 0 6 ≡ choices_status AtLimit unmet
 none_or_some [] = refl

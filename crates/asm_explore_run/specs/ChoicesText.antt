@@ -6,8 +6,8 @@
 --     choose_at text at            what is said of a `choose`: line and column of its variable,
 --                                  which is at this offset of the text, and its name
 --     choose_on path               and if it isn't known there: the path of the `choose`
---     IsChoose text path words     one of these is said of the `choose` at a path; at which offset
---                                  is free
+--     IsChoose text path words     one of these is said of the `choose` at a path; which name of the
+--                                  text its variable is, is free
 --     IsChooseLine asking line     the comment for a choice: that, and its candidates
 --     IsEntryOf, AreEntriesOf      the lines of choices, each with such a comment before it
 --     IsChoicesText                a first comment, these lines with their comments, and the last
@@ -21,7 +21,7 @@ use Rattle.asm_explore.specs.ChoicePoints.{Asking}
 use Rattle.asm_explore_report.specs.Commented.{IsCommentedText, IsWithoutScript, said_by}
 use Rattle.asm_explore_report.specs.Comments.{lines_of}
 use Rattle.asm_explore_report.specs.declared.commented.Entry.{Entry}
-use Rattle.asm_explore_texts.specs.Positions.{name_at, position_text}
+use Rattle.asm_explore_texts.specs.Positions.{IsNameAt, name_at, position_text}
 
 abbrev pub greatest_listed : ℕ
 greatest_listed = 64
@@ -46,7 +46,7 @@ module _ (text : List ℕ) where
   choose_at at = position_text text at ++ (codes ": choose " ++ name_at text at)
 
   abbrev pub IsChoose : (path words : List ℕ) → Type 0
-  IsChoose path words = ((at : ℕ) × (words ≡ choose_at at)) ⊎ (words ≡ choose_on path)
+  IsChoose path words = ((at : ℕ) × IsNameAt text at × (words ≡ choose_at at)) ⊎ (words ≡ choose_on path)
 
 module _ (text : List ℕ) (names : TraceNames) where
   pub record IsChooseLine (asking : Asking) (line : List ℕ) : Type 0 where

@@ -2,19 +2,25 @@
 --     located end vs                  where an assignment puts its value whose arguments are vs: at
 --                                     the location of a clash; and if its update is outside of its
 --                                     function, at that with these arguments
---     assignment_text                 where it is in the text, its path, location and value, and
---                                     what is bound
---     bound_text                      the names that are bound there, by where they are in the text,
---                                     each with its value, without those that an inner one hides
---     IsLineOf, AreLinesOf            the lines of assignments: which offsets of the text they and
---                                     the names have is free
+--     assignment_text                 its path, its location and its value
+--     AreNamesFor                     a name of the text is at an offset, and for each value that is
+--                                     bound one at another
+--     is_hidden text inner at         one of the names at these offsets is that at `at`
+--     bound_text                      values that are bound, the innermost first, each with the name
+--                                     at its offset, if no inner one hides it
+--     IsPlacedLine                    where an assignment is in the text, what it is, and what is
+--                                     bound there: which names of the text are at these places is free
+--     IsLineOf, AreLinesOf            the lines of assignments: each is such a line, or has only what
+--                                     the assignment is
 --     more count                      the line for so many assignments that aren't shown
 --     clash_text first shown rest     a first comment, those that are shown, and how many more there
 --                                     are
 --     greatest_shown                  so many lines of assignments don't fit into a script
 --     IsClashText                     the first of them are shown, as many as fit into a script; the
 --                                     first comment is always printed
-use Rattle.std.specs.Prelude.{◌≡◌, ◌⊎◌, ◌+◌, ◌-◌, ◌<◌, ◌≤◌, ℕ, zero, suc, List, [], ◌∷◌, ◌++◌, length, take, slice_get, Option, Some, None, codes, decimal}
+use Rattle.std.specs.Prelude.{◌≡◌, ◌⊎◌, ◌+◌, ◌-◌, ◌<◌, ◌≤◌, ℕ, zero, suc, Bool, cond, List, [], ◌∷◌, ◌++◌, All, length, take, slice_get, Some, codes, decimal}
+use Rattle.std.specs.List.{list_any}
+use Rattle.std.specs.Str.{bytes_eq}
 use Rattle.asm_state.specs.declared.value.Value.{Value}
 use Rattle.asm_state.specs.Location.{Proper}
 use Rattle.asm_reader.specs.ScriptText.{max_script}
@@ -23,7 +29,7 @@ use Rattle.asm_run.specs.declared.end.End.{End}
 use Rattle.asm_run.specs.declared.end.End.TheVariants.{Limit, Clash, Outside, Exhausted}
 use Rattle.asm_clash.specs.declared.assignment.Assignment.{Assignment}
 use Rattle.asm_explore_report.specs.Comments.{comments}
-use Rattle.asm_explore_texts.specs.Positions.{MayBePosition, name_at}
+use Rattle.asm_explore_texts.specs.Positions.{IsNameAt, name_at, position_text}
 
 module _ (names : TraceNames) where
   abbrev pub located : End → List Value → List ℕ
@@ -32,24 +38,39 @@ module _ (names : TraceNames) where
   located (Exhausted i p) vs = []
   located Limit vs = []
 
-  abbrev pub assignment_text : (place location bound : List ℕ) → Assignment → List ℕ
-  assignment_text place location bound a =
-      place ++ (codes "place " ++ (path_text a.path ++ (codes ": " ++ (location ++ (codes " := " ++ (value_text names.elements a.value ++ bound))))))
+  abbrev pub assignment_text : (location : List ℕ) → Assignment → List ℕ
+  assignment_text location a = codes "place " ++ (path_text a.path ++ (codes ": " ++ (location ++ (codes " := " ++ value_text names.elements a.value))))
+
+module _ (text : List ℕ) where
+  pub record AreNamesFor (at : ℕ) (bound : List ℕ) (vs : List Value) : Type 0 where
+    pub place : IsNameAt text at
+    pub names : All (IsNameAt text) bound
+    pub each : length bound ≡ length vs
+
+  abbrev pub is_hidden : (inner : List ℕ) → ℕ → Bool
+  is_hidden inner at = list_any (λ other. bytes_eq (name_at text other) (name_at text at)) inner
 
 module _ (text : List ℕ) (names : TraceNames) where
-  -- for each value the offset of the name that it is shown with, if it is shown
-  abbrev pub bound_text : List (Option ℕ) → List Value → List ℕ
-  bound_text [] vs = []
-  bound_text (x ∷ xs) [] = []
-  bound_text (None ∷ xs) (v ∷ vs) = bound_text xs vs
-  bound_text (Some at ∷ xs) (v ∷ vs) = (codes ", " ++ (name_at text at ++ (codes " = " ++ value_text names.elements v))) ++ bound_text xs vs
+  abbrev pub bound_value : (inner : List ℕ) → ℕ → Value → List ℕ
+  bound_value inner at v = cond (is_hidden text inner at) [] (codes ", " ++ (name_at text at ++ (codes " = " ++ value_text names.elements v)))
+
+  -- behind those at the offsets `inner`
+  abbrev pub bound_text : (inner : List ℕ) → List ℕ → List Value → List ℕ
+  bound_text inner [] vs = []
+  bound_text inner (at ∷ bound) [] = []
+  bound_text inner (at ∷ bound) (v ∷ vs) = bound_value inner at v ++ bound_text (inner ++ at ∷ []) bound vs
 
   module _ (end : End) where
-    pub record IsLineOf (a : Assignment) (line : List ℕ) : Type 0 where
-      pub place : List ℕ
-      pub is_place : MayBePosition text place
-      pub bound : List (Option ℕ)
-      pub is : line ≡ assignment_text names place (located names end a.arguments.items) (bound_text bound a.bound.items) a
+    pub record IsPlacedLine (a : Assignment) (line : List ℕ) : Type 0 where
+      pub at : ℕ
+      pub bound : List ℕ
+      pub are_names : AreNamesFor text at bound a.bound.items
+      pub is :
+          let said = assignment_text names (located names end a.arguments.items) a in
+          line ≡ position_text text at ++ (codes ", " ++ (said ++ bound_text [] bound a.bound.items))
+
+    abbrev pub IsLineOf : Assignment → (line : List ℕ) → Type 0
+    IsLineOf a line = IsPlacedLine a line ⊎ (line ≡ assignment_text names (located names end a.arguments.items) a)
 
     abbrev pub AreLinesOf : List Assignment → List (List ℕ) → Type 0
     AreLinesOf [] [] = Unit {0}

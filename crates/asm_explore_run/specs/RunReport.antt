@@ -54,11 +54,6 @@ choices_status AtLimit (line ∷ more) = 6
 choices_status (AtExhausted step q) unmet = 1
 choices_status (AtFault step U) unmet = 1
 
-abbrev pub clash_status : ClashOfRun → ℕ
-clash_status clash.Limit = 0
-clash_status (clash.Exhausted step q) = 1
-clash_status (clash.Faulty step fault found count) = 1
-
 abbrev pub status_of_end : End → ℕ
 status_of_end AtLimit = 0
 status_of_end (AtExhausted step q) = 1

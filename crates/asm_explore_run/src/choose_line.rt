@@ -7,7 +7,7 @@ ghost use Rattle.asm_explore_run.specs.ChoicesText.{IsChoose, IsChooseLine, and_
 
 use asm_check::Checked;
 use asm_explore::ChoicePoint;
-use asm_explore_texts::position_text::{push_name, push_position};
+use asm_explore_texts::position_text::{is_name_at, push_name, push_position};
 use asm_explore_texts::rule_in_text::rule_in_text;
 use asm_run::locations::{push_path, push_value};
 use asm_state::word::Word;
@@ -43,7 +43,7 @@ pub(crate) fn choose_line(
 }
 
 /// Adds where the `choose` at a path is in the text, and the name of its variable; or the path, if
-/// there is no such name.
+/// the text has no name there.
 fn push_choose(
     alloc: Global,
     line: &mut Vec<u8>,
@@ -54,8 +54,8 @@ fn push_choose(
     ensures { OnOk result ((words : List ℕ) × IsChoose text.now path.now words × (line.new.items ≡ line.old.items ++ words)) }
 {
     match variable(alloc, checked, path)? {
-        Some(name) => push_variable(alloc, line, text, name.at),
-        None => push_place(line, path),
+        Some(name) if is_name_at(text, name.at) => push_variable(alloc, line, text, name.at),
+        _ => push_place(line, path),
     }
 }
 

@@ -10,7 +10,8 @@ ghost use Rattle.asm_clash.specs.ClashOfRun.{EndsSo};
 ghost use Rattle.asm_clash.specs.code.ReadByCode.{AreReadByCode};
 ghost use Rattle.asm_run.specs.Written.{names_in};
 ghost use Rattle.asm_explore_run.specs.ClashText.{IsClashText, greatest_shown};
-ghost use Rattle.asm_explore_run.specs.RunReport.{IsClashReported, assignments_in, clash_status, count_in, run_asked};
+ghost use Rattle.asm_explore_run.specs.RunReport.{IsClashReported, assignments_in, count_in, run_asked};
+ghost use Rattle.asm_explore_run.specs.code.EndStatuses.{clash_status};
 
 use crate::clash_text::{MAX_SHOWN, clash_text};
 use crate::run_end::ended;

@@ -1,100 +1,110 @@
-//! Keys of the lines of a script: the step and, after it, the path.
-ghost use Rattle.std.specs.Prelude.{◌≡◌, ◌==◌, ◌∷◌, [], map, option_map, IfOk};
-ghost use Rattle.std.specs.List.{slice_split};
-ghost use Rattle.std.specs.Str.Lines.{strip_carriage_return};
-ghost use Rattle.asm_reader.specs.ScriptText as spec;
-ghost use Rattle.asm_explore_run.specs.code.LineKeys.{IsKeyOf, key_step};
+//! Lines of a script, by their steps and paths.
+ghost use Rattle.std.specs.Prelude.{◌≡◌, ◌↔◌, ◌∷◌, cond, false, true, IfOk, IsTrue, OnOk};
+ghost use Rattle.asm_reader.specs.ScriptLines.{SaidLine};
+ghost use Rattle.asm_reader.specs.ScriptText.{line_said};
+ghost use Rattle.asm_explore.specs.code.WrittenScripts.{line_said as choice_said};
+ghost use Rattle.asm_explore_run.specs.code.LineKeys.{has_line, key_said, line_count, meets};
 
+use asm_explore::ScriptLine;
+use asm_reader::script::{ReadLine, When};
 use std::alloc::{AllocError, Global};
+use std::collections::BTreeSet;
 
-/// The first number of the key of a line for every step. Steps count from 1.
-pub(crate) const EVERY_STEP: u64 = 0;
-
-/// The most digits that a number of a script may have.
-const MAX_DIGITS: usize = 9;
-
-/// The line without the carriage return at its end, if it has one.
-pub(crate) fn without_return(line: &[u8]) -> &[u8]
-    ensures { result.now ≡ strip_carriage_return line.now }
-{
-    match line {
-        [front @ .., b'\r'] => front,
-        _ => line,
-    }
+/// Some lines of a script: those for one step, and those for every step.
+#[derive(Drop)]
+pub(crate) struct LineKeys {
+    /// Of each of the first the step, and behind it the path.
+    in_step: BTreeSet<Vec<u64>>,
+    /// Of each of the others the path.
+    in_every_step: BTreeSet<Vec<u64>>,
 }
 
-/// Whether the line says nothing.
-pub(crate) fn is_skipped(line: &[u8]) -> bool
-    ensures { result ≡ spec.is_skipped line.now }
-{
-    matches!(line, [] | [b'#', ..])
-}
-
-/// What is between the bytes that are this one.
-pub(crate) fn parts(alloc: Global, text: &[u8], at: u8) -> Result<Vec<&[u8]>, AllocError>
-    ensures { IfOk result (λ parts. map (λ p. p.now) parts.items ≡ slice_split (λ b. b == at) text.now) }
-{
-    text.split(|b| *b == at).collect(alloc)
-}
-
-/// The value of one to nine digits.
-fn number(digits: &[u8]) -> Option<u64>
-    ensures { result ≡ spec.number_of digits.now }
-{
-    if digits.is_empty() || digits.len() > MAX_DIGITS {
-        return None;
-    }
-    let mut value = 0;
-    for digit in digits {
-        if !digit.is_ascii_digit() {
-            return None;
-        }
-        value = 10 * value + u64::from(*digit - b'0');
-    }
-    Some(value)
-}
-
-/// The first number of the key of a line whose first field this is.
-fn step(field: &[u8]) -> Option<u64>
-    ensures { result ≡ option_map (λ when. key_step (spec.line_for when [] 0)) (spec.when_of field.now) }
-{
-    if field == b"*".as_slice() {
-        return Some(EVERY_STEP);
-    }
-    match number(field) {
-        None | Some(0) => None,
-        Some(step) => Some(step),
-    }
-}
-
-/// The path that is written so, behind a step.
-fn path_behind(alloc: Global, step: u64, text: &[u8]) -> Result<Option<Vec<u64>>, AllocError>
-    ensures { IfOk result (λ key. option_map (λ numbers. numbers.items) key ≡ option_map (λ path. step ∷ path) (spec.path_of text.now)) }
-{
-    let mut numbers = Vec::new(alloc);
-    numbers.push(step)?;
-    if text == b"-".as_slice() {
-        return Ok(Some(numbers));
-    }
-    for digits in text.split(|b| *b == b'.') {
-        match number(digits) {
-            Some(number) => numbers.push(number)?,
-            None => return Ok(None),
+impl LineKeys {
+    /// No lines.
+    pub(crate) fn new(alloc: Global) -> LineKeys
+        ensures { line_count result ≡ 0 }
+    {
+        LineKeys {
+            in_step: BTreeSet::new(alloc),
+            in_every_step: BTreeSet::new(alloc),
         }
     }
-    Ok(Some(numbers))
+
+    /// Whether there are none.
+    pub(crate) fn is_empty(&self) -> bool
+        ensures { IsTrue result ↔ (line_count self.now ≡ 0) }
+    {
+        self.in_step.is_empty() && self.in_every_step.is_empty()
+    }
+
+    /// Adds a line.
+    pub(crate) fn add(&mut self, alloc: Global, line: &ReadLine) -> Result<(), AllocError>
+        ensures kept { OnOk result ((other : SaidLine) → has_line other self.old ≡ true → has_line other self.new ≡ true) }
+        ensures added { OnOk result (has_line (line_said line.now) self.new ≡ true) }
+    {
+        let key = key_of(alloc, line)?;
+        match line.when {
+            When::Step(_) => self.in_step.insert(key)?,
+            When::EveryStep => self.in_every_step.insert(key)?,
+        };
+        Ok(())
+    }
+
+    /// Whether a line is among these.
+    pub(crate) fn has(&self, alloc: Global, line: &ReadLine) -> Result<bool, AllocError>
+        ensures { IfOk result (λ has. has ≡ has_line (line_said line.now) self.now) }
+    {
+        let key = key_of(alloc, line)?;
+        match line.when {
+            When::Step(_) => Ok(self.in_step.contains(&key)),
+            When::EveryStep => Ok(self.in_every_step.contains(&key)),
+        }
+    }
+
+    /// Removes the lines that a choice meets: of its step and its path, and of its path in every
+    /// step.
+    pub(crate) fn remove_met(
+        &mut self,
+        alloc: Global,
+        choice: &ScriptLine<'_>,
+    ) -> Result<(), AllocError>
+        ensures { OnOk result ((line : SaidLine) → has_line line self.new ≡ cond (meets (choice_said choice.now) line) false (has_line line self.old)) }
+    {
+        let key = key_at(alloc, choice.step, choice.path)?;
+        let _ = self.in_step.remove(&key);
+        let _ = self.in_every_step.remove(choice.path);
+        Ok(())
+    }
 }
 
-/// The key of a line, if it has the form of one that says something.
-pub(crate) fn key_of(alloc: Global, line: &[u8]) -> Result<Option<Vec<u64>>, AllocError>
-    ensures { IfOk result (IsKeyOf line.now) }
+/// A step, and behind it a path.
+fn key_at(alloc: Global, step: u64, path: &[u64]) -> Result<Vec<u64>, AllocError>
+    ensures { IfOk result (λ key. key.items ≡ step ∷ path.now) }
 {
-    let fields = parts(alloc, line, b' ')?;
-    let [at, place, chosen] = fields.as_slice() else {
-        return Ok(None);
-    };
-    let (Some(step), Some(_)) = (step(at), number(chosen)) else {
-        return Ok(None);
-    };
-    path_behind(alloc, step, place)
+    let mut key = Vec::new(alloc);
+    key.push(step)?;
+    key.extend_from_slice(path)?;
+    Ok(key)
+}
+
+/// These numbers, each in 64 bits.
+fn widened(alloc: Global, numbers: &[u32]) -> Result<Vec<u64>, AllocError>
+    ensures { IfOk result (λ wide. wide.items ≡ numbers.now) }
+{
+    let mut wide = Vec::new(alloc);
+    for number in numbers {
+        wide.push(u64::from(*number))?;
+    }
+    Ok(wide)
+}
+
+/// What a line is found by among those of its kind.
+fn key_of(alloc: Global, line: &ReadLine) -> Result<Vec<u64>, AllocError>
+    ensures { IfOk result (λ key. key.items ≡ key_said (line_said line.now)) }
+{
+    let path = widened(alloc, line.path.as_slice())?;
+    match line.when {
+        When::Step(step) => key_at(alloc, u64::from(step), path.as_slice()),
+        When::EveryStep => Ok(path),
+    }
 }

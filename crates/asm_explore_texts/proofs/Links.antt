@@ -5,6 +5,7 @@ use Rattle.std.specs.Prelude.{slice_index_or}
 use Rattle.std.proofs.lemmas.List.{map-append, take_more}
 use Rattle.asm_state.specs.declared.operation.Op.{Op}
 use Rattle.asm_state.specs.declared.operation.Op.TheVariants.{And}
+use Rattle.asm_syntax.specs.SourceTree.{Spec}
 use Rattle.asm_syntax.specs.declared.term.Literal.TheVariants.{Truth}
 use Rattle.asm_syntax.specs.declared.term.Term.{Term}
 use Rattle.asm_syntax.specs.declared.term.Term.TheVariants.{Chain, Constant}
@@ -19,19 +20,19 @@ joined_is first links some begins = go links.items refl
     go [] is = absurd (some is)
     go (link ∷ more) is = (first, links, refl, begins, is)
 
-snoc : (text : List ℕ) (n : ℕ) (texts : List (List ℕ)) (links : List (Op × Term)) (asked : List ℕ) (t : Term) → AreConditionsOf text n texts links
-    → IsConditionOf text n asked t → AreConditionsOf text n (texts ++ asked ∷ []) (links ++ (And, t) ∷ [])
-snoc text n [] [] asked t are is = (refl, is, tt)
-snoc text n [] (link ∷ links) asked t are is = absurd are
-snoc text n (one ∷ texts) [] asked t are is = absurd are
-snoc text n (one ∷ texts) (link ∷ links) asked t are is = (are.0, are.1, snoc text n texts links asked t are.2 is)
+snoc : (spec : Spec) (texts : List (List ℕ)) (links : List (Op × Term)) (asked : List ℕ) (t : Term) → AreConditionsOf spec texts links
+    → IsConditionOf spec asked t → AreConditionsOf spec (texts ++ asked ∷ []) (links ++ (And, t) ∷ [])
+snoc spec [] [] asked t are is = (refl, is, tt)
+snoc spec [] (link ∷ links) asked t are is = absurd are
+snoc spec (one ∷ texts) [] asked t are is = absurd are
+snoc spec (one ∷ texts) (link ∷ links) asked t are is = (are.0, are.1, snoc spec texts links asked t are.2 is)
 
-pub one_more : (text : List ℕ) (n : ℕ) (conditions : List Condition) (k : ℕ) (condition : Condition) (t : Term) (old new : List (Op × Term))
+pub one_more : (spec : Spec) (conditions : List Condition) (k : ℕ) (condition : Condition) (t : Term) (old new : List (Op × Term))
     → k < length conditions → condition ≡ slice_index_or conditions k condition
-    → AreConditionsOf text n (texts_of (take k conditions)) old → IsConditionOf text n condition.text.items t → new ≡ old ++ (And, t) ∷ []
-    → AreConditionsOf text n (texts_of (take (k + 1) conditions)) new
-one_more text n conditions k condition t old new low at are is grown =
+    → AreConditionsOf spec (texts_of (take k conditions)) old → IsConditionOf spec condition.text.items t → new ≡ old ++ (And, t) ∷ []
+    → AreConditionsOf spec (texts_of (take (k + 1) conditions)) new
+one_more spec conditions k condition t old new low at are is grown =
     let taken : texts_of (take (k + 1) conditions) ≡ texts_of (take k conditions) ++ condition.text.items ∷ [] =
     ap texts_of (take_more conditions k condition low ∙ ap (λ y. take k conditions ++ y ∷ []) (sym at)) ∙ map-append (λ c. c.text.items) (take k conditions) (condition ∷ []) in
-    subst (λ links. AreConditionsOf text n (texts_of (take (k + 1) conditions)) links) (sym grown)
-    (subst (λ texts. AreConditionsOf text n texts (old ++ (And, t) ∷ [])) (sym taken) (snoc text n (texts_of (take k conditions)) old condition.text.items t are is))
+    subst (λ links. AreConditionsOf spec (texts_of (take (k + 1) conditions)) links) (sym grown)
+    (subst (λ texts. AreConditionsOf spec texts (old ++ (And, t) ∷ [])) (sym taken) (snoc spec (texts_of (take k conditions)) old condition.text.items t are is))

@@ -1,66 +1,79 @@
 -- Definition. Conditions on states, from their texts.
---     extended text asked             the text of a specification, and after it a derived function
---                                     with the condition as its body
---     EndsInTerm items n t            after n items there is one more, a derived function without
---                                     parameters, and this is its body
---     IsConditionOf text n asked t    the extended text is well formed, and its items end so
---     AreConditionsOf                 the same for each of several conditions, as links of a chain
---                                     of `and`
+--     IsAskedOf spec asked t          the text spells this term alone, which has no fault over the
+--                                     specification
+--     IsConditionOf spec asked t      the same of the code's term
+--     IsConditionError spec asked e   what is wrong with a text that is no condition, and where
+--     ExplainsCondition spec asked e  the same, if a refusal names it
+--     AreConditionsOf                 each of several texts is that of a condition, whose term is a
+--                                     link of a chain of `and`
 --     AreAnds links                   each link is an `and`
---     MayBeConditionOf                the same for a condition that may be left out
+--     MayBeConditionOf                the condition of a text, if there is one
 --     IsJoined links t                the chain of these links after `true`, or no term if there
 --                                     are none
-use Rattle.std.specs.Prelude.{◌≡◌, ℕ, true, List, [], ◌∷◌, ◌++◌, length, map, Option, Some, None, codes, ⊤}
+use Rattle.std.specs.Prelude.{◌≡◌, ℕ, true, List, [], ◌∷◌, map, Option, Some, None, ⊤}
 use Rattle.std.proofs.Common.{Vec, Box, Global}
 use Rattle.asm_state.specs.declared.operation.Op.{Op}
 use Rattle.asm_state.specs.declared.operation.Op.TheVariants.{And}
-use Rattle.asm_syntax.specs.code.Views.{spec_of}
-use Rattle.asm_syntax.specs.declared.name.Name.{Name}
-use Rattle.asm_syntax.specs.declared.spec.Spec.{Spec}
-use Rattle.asm_syntax.specs.declared.spec.Item.{Item}
-use Rattle.asm_syntax.specs.declared.spec.Item.TheVariants as item
+use Rattle.asm_syntax.specs.SourceTree as source
+use Rattle.asm_syntax.specs.code.Views.{term_of}
+use Rattle.asm_syntax.specs.declared.input_error.InputError.{InputError}
+use Rattle.asm_syntax.specs.declared.input_error.InputError.TheVariants.{Memory, Named}
 use Rattle.asm_syntax.specs.declared.term.Literal.TheVariants.{Truth}
 use Rattle.asm_syntax.specs.declared.term.Term.{Term}
 use Rattle.asm_syntax.specs.declared.term.Term.TheVariants.{Chain, Constant}
-use Rattle.asm_reader.specs.Specification.{IsSpecification}
-use Rattle.asm_check.specs.Faults.{IsWellFormed}
+use Rattle.asm_reader.specs.Refusals.{refusal_offset}
+use Rattle.asm_reader.specs.TermText.{IsTermText, IsTermRefusal}
+use Rattle.asm_check.specs.Errors.{number_of}
+use Rattle.asm_check.specs.TermFaults.{IsLeastTermFault, IsWellFormedTerm}
+use Rattle.asm_explore_words.specs.declared.fault.TextError.{TextError}
+use Rattle.asm_explore_words.specs.declared.fault.TextError.TheVariants as text
+use Rattle.asm_explore_texts.specs.declared.condition.ConditionError.{ConditionError}
 use Rattle.asm_explore_texts.specs.declared.conditions.Condition.{Condition}
 
--- what is between the text and the condition
-abbrev pub front : List ℕ
-front = 10 ∷ codes "derived condition_of_the_search = "
+pub record IsAskedOf (spec : source.Spec) (asked : List ℕ) (t : source.Term) : Type 0 where
+  pub spelled : IsTermText asked t
+  pub well_formed : IsWellFormedTerm spec t
 
-abbrev pub extended : (text asked : List ℕ) → List ℕ
-extended text asked = ((text ++ front) ++ asked) ++ 10 ∷ []
+abbrev pub IsConditionOf : source.Spec → (asked : List ℕ) → Term → Type 0
+IsConditionOf spec asked t = IsAskedOf spec asked (term_of t)
 
-pub record EndsInTerm (items : List Item) (n : ℕ) (t : Term) : Type 0 where
-  pub before : List Item
-  pub count : length before ≡ n
-  pub name : Name
-  pub parameters : Vec Name Global
-  pub none : parameters.items ≡ []
-  pub parts : items ≡ before ++ item.Derived name parameters t ∷ []
+-- ---- refusals
 
-pub record IsConditionOf (text : List ℕ) (n : ℕ) (asked : List ℕ) (t : Term) : Type 0 where
-  pub tree : Spec
-  pub spelled : IsSpecification (extended text asked) (spec_of tree)
-  pub well_formed : IsWellFormed (spec_of tree)
-  pub body : EndsInTerm tree.items.items n t
+-- the term that the text spells has this as its first fault
+pub record IsFaultyTerm (spec : source.Spec) (asked : List ℕ) (at number : ℕ) : Type 0 where
+  pub term : source.Term
+  pub spelled : IsTermText asked term
+  pub fault : IsLeastTermFault spec term at number
 
-abbrev pub AreConditionsOf : (text : List ℕ) → (n : ℕ) → List (List ℕ) → List (Op × Term) → Type 0
-AreConditionsOf text n [] [] = ⊤
-AreConditionsOf text n [] (link ∷ links) = ⊥
-AreConditionsOf text n (asked ∷ more) [] = ⊥
-AreConditionsOf text n (asked ∷ more) (link ∷ links) = (link.0 ≡ And) × IsConditionOf text n asked link.1 × AreConditionsOf text n more links
+abbrev pub IsErrorAt : source.Spec → (asked : List ℕ) → TextError → (at : Option ℕ) → Type 0
+IsErrorAt spec asked (text.Read e) at = IsTermRefusal asked e × (at ≡ refusal_offset e)
+IsErrorAt spec asked (text.Check e) at = IsFaultyTerm spec asked e.at (number_of e.kind) × (at ≡ Some e.at)
+IsErrorAt spec asked (text.Script e) at = ⊥
+
+abbrev pub IsConditionError : source.Spec → (asked : List ℕ) → ConditionError → Type 0
+IsConditionError spec asked e = IsErrorAt spec asked e.error e.at
+
+-- what is wrong with the text, if the refusal names it
+abbrev pub ExplainsCondition : source.Spec → (asked : List ℕ) → InputError ConditionError → Type 0
+ExplainsCondition spec asked Memory = Unit {0}
+ExplainsCondition spec asked (Named e) = IsConditionError spec asked e
+
+-- ---- several conditions
+
+abbrev pub AreConditionsOf : source.Spec → List (List ℕ) → List (Op × Term) → Type 0
+AreConditionsOf spec [] [] = ⊤
+AreConditionsOf spec [] (link ∷ links) = ⊥
+AreConditionsOf spec (asked ∷ more) [] = ⊥
+AreConditionsOf spec (asked ∷ more) (link ∷ links) = (link.0 ≡ And) × IsConditionOf spec asked link.1 × AreConditionsOf spec more links
 
 abbrev pub AreAnds : List (Op × Term) → Type 0
 AreAnds [] = ⊤
 AreAnds (link ∷ links) = (link.0 ≡ And) × AreAnds links
 
-abbrev pub MayBeConditionOf : (text : List ℕ) → (n : ℕ) → Option (List ℕ) → Option Term → Type 0
-MayBeConditionOf text n None t = t ≡ None
-MayBeConditionOf text n (Some asked) None = ⊥
-MayBeConditionOf text n (Some asked) (Some t) = IsConditionOf text n asked t
+abbrev pub MayBeConditionOf : source.Spec → Option (List ℕ) → Option Term → Type 0
+MayBeConditionOf spec None t = t ≡ None
+MayBeConditionOf spec (Some asked) None = ⊥
+MayBeConditionOf spec (Some asked) (Some t) = IsConditionOf spec asked t
 
 abbrev pub IsJoined : List (Op × Term) → Option Term → Type 0
 IsJoined [] t = t ≡ None

@@ -4,15 +4,18 @@
 --     before_in_line, from_in_line     the line, before the offset and from it on
 --     characters                       what counts as a column
 --     position_text                    line and column, in words
---     MayBePosition text place         this is that of some offset of the text, with a comma behind
+--     name_at                          the letters, digits and `_` from an offset on
+--     is_name_at, IsNameAt             they are a whole name of the text, or a reserved word: a letter
+--                                      or `_` stands at the offset, and none of them before it
+--     MayBePosition text place         this is the line and column of such a name, with a comma behind
 --                                      it, or empty
---     name_at                          the name that stands at an offset
-use Rattle.std.specs.Prelude.{◌≡◌, ◌⊎◌, ℕ, zero, suc, ◌+◌, ◌-◌, ◌==◌, Bool, Option, None, Some, List, [], ◌∷◌, ◌++◌, take, drop, length, count_by, slice_get, take_while, unwrap_or, codes, decimal}
+use Rattle.std.specs.Prelude.{◌≡◌, ◌⊎◌, ℕ, zero, suc, ◌+◌, ◌-◌, ◌==◌, Bool, false, not, ◌&&◌, IsTrue, Option, None, Some, List, [], ◌∷◌, ◌++◌, take, drop, length, count_by, slice_get, take_while, unwrap_or, codes, decimal}
 use Rattle.std.specs.Char.{len_utf8}
 use Rattle.std.specs.List.{after_last, before_first}
+use Rattle.std.specs.Option.{option_map_or}
 use Rattle.std.specs.Str.{chars}
 use Rattle.std.specs.Str.Lossy.{utf8_valid_len}
-use Rattle.asm_syntax.specs.Tokens.{is_letter_or_digit}
+use Rattle.asm_syntax.specs.Tokens.{is_letter, is_letter_or_digit}
 
 -- ---- lines
 
@@ -66,9 +69,23 @@ column_in_text text at = length (chars (before_in_line text at)) + 1
 abbrev pub position_text : (text : List ℕ) → ℕ → List ℕ
 position_text text at = codes "line " ++ (decimal (line_number text at) ++ (codes ", column " ++ decimal (column_number text at)))
 
-abbrev pub MayBePosition : (text place : List ℕ) → Type 0
-MayBePosition text place = (place ≡ []) ⊎ ((at : ℕ) × (place ≡ position_text text at ++ codes ", "))
+-- ---- names
 
 -- the letters, digits and `_` from the offset on
 abbrev pub name_at : (text : List ℕ) → ℕ → List ℕ
 name_at text at = take_while is_letter_or_digit (drop at text)
+
+-- whether the byte at the offset is one of these; behind the text there is none
+abbrev pub has_at : (ℕ → Bool) → (text : List ℕ) → ℕ → Bool
+has_at p text at = option_map_or p (slice_get text at) false
+
+-- whether they are a whole name, or a reserved word
+abbrev pub is_name_at : (text : List ℕ) → ℕ → Bool
+is_name_at text zero = has_at is_letter text zero
+is_name_at text (suc before) = has_at is_letter text (suc before) && not (has_at is_letter_or_digit text before)
+
+abbrev pub IsNameAt : (text : List ℕ) → ℕ → Type 0
+IsNameAt text at = IsTrue (is_name_at text at)
+
+abbrev pub MayBePosition : (text place : List ℕ) → Type 0
+MayBePosition text place = (place ≡ []) ⊎ ((at : ℕ) × IsNameAt text at × (place ≡ position_text text at ++ codes ", "))

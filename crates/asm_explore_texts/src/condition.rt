@@ -1,120 +1,77 @@
 //! A condition, from its text.
-ghost use Rattle.std.specs.Prelude.{◌≡◌, IfOk, IfSome, OnOk};
-ghost use Rattle.asm_syntax.specs.code.Views.{spec_of};
-ghost use Rattle.asm_reader.specs.Specification.{IsSpecification};
-ghost use Rattle.asm_check.specs.Faults.{IsWellFormed};
-ghost use Rattle.asm_explore_texts.specs.Conditions as conditions;
-ghost use Rattle.asm_explore_texts.specs.Conditions.{EndsInTerm, IsConditionOf};
+ghost use Rattle.std.specs.Prelude.{◌≡◌, ℕ, List, IfOk, IfErr, OnOk};
+ghost use Rattle.asm_syntax.specs.declared.input_error.InputError.TheVariants.{Memory};
+ghost use Rattle.asm_syntax.specs.SourceTree as source;
+ghost use Rattle.asm_syntax.specs.code.Views.{spec_of, term_of};
+ghost use Rattle.asm_reader.specs.TermText.{IsTermText};
+ghost use Rattle.asm_check.specs.TermFaults.{IsWellFormedTerm};
+ghost use Rattle.asm_explore_texts.specs.Conditions.{ExplainsCondition, IsAskedOf, IsConditionOf};
 
-use asm_check::check;
+use asm_check::Checked;
 use asm_explore_words::fault::TextError;
-use asm_reader::{one_tree, read};
+use asm_reader::{one_term, read_term};
 use asm_syntax::InputError;
-use asm_syntax::spec::{Item, Spec};
 use asm_syntax::term::Term;
-use std::alloc::{AllocError, Global};
+use std::alloc::Global;
 
-/// What is before a condition when it is read as a derived function after a specification.
-const FRONT: &[u8] = b"\nderived condition_of_the_search = ";
-
-/// What is wrong with a condition, and where: an offset of its text, or the length.
+/// What is wrong with a condition, and where: an offset of its text, if there is one.
 #[derive(Clone, Copy, Debug, PartialEq, Eq)]
 pub struct ConditionError {
     pub error: TextError,
     pub at: Option<usize>,
 }
 
-/// The text of a specification, and the condition as a derived function after it.
-fn extended(alloc: Global, text: &[u8], condition: &[u8]) -> Result<Vec<u8>, AllocError>
-    ensures { IfOk result (λ whole. whole.items ≡ conditions.extended text.now condition.now) }
-{
-    let mut whole = Vec::new(alloc);
-    whole.extend_from_slice(text)?;
-    whole.extend_from_slice(FRONT)?;
-    whole.extend_from_slice(condition)?;
-    whole.push(b'\n')?;
-    Ok(whole)
-}
-
-/// The fault of an error at this offset of the whole text, in which the condition begins at
-/// `front`.
-fn named(error: TextError, at: Option<usize>, front: usize) -> InputError<ConditionError> {
-    let at = match at {
-        Some(at) if at >= front => Some(at - front),
-        _ => None,
-    };
-    InputError::Named(ConditionError { error, at })
-}
-
-/// What the whole text spells.
-fn read_whole(alloc: Global, whole: &[u8], front: usize) -> Result<Spec, InputError<ConditionError>>
-    ensures { IfOk result (λ tree. IsSpecification whole.now (spec_of tree)) }
-{
-    match read(alloc, whole) {
-        Ok(tree) => Ok(tree),
-        Err(InputError::Memory) => Err(InputError::Memory),
-        Err(InputError::Named(error)) => Err(named(TextError::Read(error), error.at(), front)),
-    }
-}
-
-/// Checks what the whole text spells.
-fn check_whole(alloc: Global, tree: Spec, front: usize) -> Result<(), InputError<ConditionError>>
-    ensures { OnOk result (IsWellFormed (spec_of tree)) }
-{
-    match check(alloc, tree) {
-        Ok(_checked) => Ok(()),
-        Err(InputError::Memory) => Err(InputError::Memory),
-        Err(InputError::Named(error)) => Err(named(TextError::Check(error), Some(error.at), front)),
-    }
-}
-
-/// The term of the item after `items` items, if that is the last one, and a derived function
-/// without parameters.
-fn last_term(tree: Spec, items: usize) -> Option<Term>
-    ensures { IfSome result (EndsInTerm tree.items.items items) }
-{
-    let Spec {
-        items: mut before,
-        ..
-    } = tree;
-    match before.pop() {
-        Some(
-            Item::Derived {
-                name: _name,
-                parameters,
-                body,
-            },
-        ) => {
-            if !parameters.is_empty() || before.len() != items {
-                return None;
-            }
-            Some(body)
-        }
-        _ => None,
-    }
-}
-
-/// The condition, as a term over the names of the specification with this text, which has `items`
-/// items.
+/// The condition, as a term over the names of the specification.
 pub fn condition_term(
     alloc: Global,
-    text: &[u8],
-    items: usize,
+    checked: &Checked,
     condition: &[u8],
 ) -> Result<Term, InputError<ConditionError>>
-    ensures { IfOk result (IsConditionOf text.now items condition.now) }
+    ensures found { IfOk result (IsConditionOf (spec_of checked.now.spec) condition.now) }
+    ensures refused { IfErr result (ExplainsCondition (spec_of checked.now.spec) condition.now) }
+    // A text that is a condition is refused only if memory runs out.
+    ensures accepted { (t : source.Term) → IsAskedOf (spec_of checked.now.spec) condition.now t → IfErr result (λ e. e ≡ Memory) }
 {
-    let whole = extended(alloc, text, condition)?;
-    let front = text.len().saturating_add(FRONT.len());
-    let tree = read_whole(alloc, whole.as_slice(), front)?;
-    if tree.items.len() != items.saturating_add(1) {
-        return Err(named(TextError::MoreThanATerm, None, front));
+    let term = read_condition(alloc, condition)?;
+    one_term();
+    match check_condition(alloc, checked, &term) {
+        Ok(()) => Ok(term),
+        Err(error) => Err(error),
     }
-    check_whole(alloc, tree, front)?;
-    one_tree();
-    let again = read_whole(alloc, whole.as_slice(), front)?;
-    match last_term(again, items) {
-        Some(term) => Ok(term),
-        None => Err(named(TextError::MoreThanATerm, None, front)),
+}
+
+/// The term that the text of a condition spells.
+fn read_condition(alloc: Global, condition: &[u8]) -> Result<Term, InputError<ConditionError>>
+    ensures found { IfOk result (λ t. IsTermText condition.now (term_of t)) }
+    ensures refused { (spec : source.Spec) → IfErr result (ExplainsCondition spec condition.now) }
+    ensures accepted { (t : source.Term) → IsTermText condition.now t → IfErr result (λ e. e ≡ Memory) }
+{
+    match read_term(alloc, condition) {
+        Ok(term) => Ok(term),
+        Err(InputError::Memory) => Err(InputError::Memory),
+        Err(InputError::Named(error)) => Err(InputError::Named(ConditionError {
+            error: TextError::Read(error),
+            at: error.at(),
+        })),
+    }
+}
+
+/// Whether the term of a condition has no fault.
+fn check_condition(
+    alloc: Global,
+    checked: &Checked,
+    term: &Term,
+) -> Result<(), InputError<ConditionError>>
+    ensures well_formed { OnOk result (IsWellFormedTerm (spec_of checked.now.spec) (term_of term.now)) }
+    ensures refused { (asked : List ℕ) → IsTermText asked (term_of term.now) → IfErr result (ExplainsCondition (spec_of checked.now.spec) asked) }
+    ensures good { IsWellFormedTerm (spec_of checked.now.spec) (term_of term.now) → IfErr result (λ e. e ≡ Memory) }
+{
+    match checked.check_term(alloc, term) {
+        Ok(()) => Ok(()),
+        Err(InputError::Memory) => Err(InputError::Memory),
+        Err(InputError::Named(error)) => Err(InputError::Named(ConditionError {
+            error: TextError::Check(error),
+            at: Some(error.at),
+        })),
     }
 }

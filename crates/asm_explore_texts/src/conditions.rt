@@ -2,9 +2,11 @@
 ghost use Rattle.std.specs.Prelude.{◌≡◌, List, IfOk};
 ghost use Rattle.asm_state.specs.declared.operation.Op.{Op as Operation};
 ghost use Rattle.asm_syntax.specs.declared.term.Term.{Term as Code};
+ghost use Rattle.asm_syntax.specs.code.Views.{spec_of};
 ghost use Rattle.asm_explore_texts.specs.Conditions.{AreConditionsOf, IsConditionOf, IsJoined, MayBeConditionOf, text_of, texts_of};
 
 use crate::condition::{ConditionError, condition_term};
+use asm_check::Checked;
 use asm_explore_words::fault::{Fault, RefusedText, Source};
 use asm_state::operation::Op;
 use asm_syntax::InputError;
@@ -44,17 +46,15 @@ fn refused<'w>(
     }))
 }
 
-/// A condition as a term over the names of the specification with this text, which has `items`
-/// items.
+/// A condition as a term over the names of the specification.
 fn term_of<'w>(
     alloc: Global,
-    text: &[u8],
-    items: usize,
+    checked: &Checked,
     condition: &Condition<'w>,
 ) -> Result<Term, Fault<'w>>
-    ensures { IfOk result (IsConditionOf text.now items condition.now.text.items) }
+    ensures { IfOk result (IsConditionOf (spec_of checked.now.spec) condition.now.text.items) }
 {
-    match condition_term(alloc, text, items, condition.text.as_slice()) {
+    match condition_term(alloc, checked, condition.text.as_slice()) {
         Ok(term) => Ok(term),
         Err(InputError::Memory) => Err(Fault::Memory),
         Err(InputError::Named(error)) => Err(refused(alloc, condition, error)?),
@@ -64,14 +64,13 @@ fn term_of<'w>(
 /// A condition that may be left out, as a term.
 pub fn optional_term<'w>(
     alloc: Global,
-    text: &[u8],
-    items: usize,
+    checked: &Checked,
     condition: &Option<Condition<'w>>,
 ) -> Result<Option<Term>, Fault<'w>>
-    ensures { IfOk result (MayBeConditionOf text.now items (text_of condition.now)) }
+    ensures { IfOk result (MayBeConditionOf (spec_of checked.now.spec) (text_of condition.now)) }
 {
     match condition {
-        Some(condition) => Ok(Some(term_of(alloc, text, items, condition)?)),
+        Some(condition) => Ok(Some(term_of(alloc, checked, condition)?)),
         None => Ok(None),
     }
 }
@@ -79,15 +78,14 @@ pub fn optional_term<'w>(
 /// Each of the conditions as a term, after the `and` that joins it to those before.
 pub fn links<'w>(
     alloc: Global,
-    text: &[u8],
-    items: usize,
+    checked: &Checked,
     conditions: &[Condition<'w>],
 ) -> Result<Vec<(Op, Term)>, Fault<'w>>
-    ensures { IfOk result (λ links. AreConditionsOf text.now items (texts_of conditions.now) links.items) }
+    ensures { IfOk result (λ links. AreConditionsOf (spec_of checked.now.spec) (texts_of conditions.now) links.items) }
 {
     let mut links = Vec::new(alloc);
     for k in 0..conditions.len() {
-        let term = term_of(alloc, text, items, &conditions[k])?;
+        let term = term_of(alloc, checked, &conditions[k])?;
         links.push((Op::And, term))?;
     }
     Ok(links)

@@ -2,7 +2,9 @@
 ghost use Rattle.std.specs.Prelude.{◌≡◌, ◌++◌, OnOk};
 ghost use Rattle.std.specs.List.{prefix_len};
 ghost use Rattle.asm_syntax.specs.Tokens.{is_letter_or_digit};
-ghost use Rattle.asm_explore_texts.specs.Positions.{name_at, position_text};
+ghost use Rattle.asm_syntax.specs.Tokens as tokens;
+ghost use Rattle.asm_explore_texts.specs.Positions.{position_text};
+ghost use Rattle.asm_explore_texts.specs.Positions as positions;
 
 use crate::position::Position;
 use std::alloc::{AllocError, Global};
@@ -22,10 +24,30 @@ pub fn push_position(
 
 /// Adds the name that stands at an offset of a text.
 pub fn push_name(out: &mut Vec<u8>, text: &[u8], at: usize) -> Result<(), AllocError>
-    ensures { OnOk result (out.new.items ≡ out.old.items ++ name_at text.now at) }
+    ensures { OnOk result (out.new.items ≡ out.old.items ++ positions.name_at text.now at) }
+{
+    out.extend_from_slice(name_at(text, at))
+}
+
+/// The letters, digits and `_` from an offset of a text on.
+pub fn name_at(text: &[u8], at: usize) -> &[u8]
+    ensures { result.now ≡ positions.name_at text.now at }
 {
     let (_, rest) = text.split_at(at.min(text.len()));
-    out.extend_from_slice(&rest[..name_length(rest)])
+    &rest[..name_length(rest)]
+}
+
+/// Whether they are a whole name of the text, or a reserved word.
+pub fn is_name_at(text: &[u8], at: usize) -> bool
+    ensures { result ≡ positions.is_name_at text.now at }
+{
+    let Some(first) = text.get(at) else {
+        return false;
+    };
+    if at == 0 {
+        return is_letter(*first);
+    }
+    is_letter(*first) && !is_in_names(text[at - 1])
 }
 
 /// How many letters, digits and `_` a text begins with.
@@ -48,5 +70,12 @@ fn name_length(text: &[u8]) -> usize
 fn is_in_names(byte: u8) -> bool
     ensures { result ≡ is_letter_or_digit byte }
 {
-    byte.is_ascii_alphabetic() || byte == b'_' || byte.is_ascii_digit()
+    is_letter(byte) || byte.is_ascii_digit()
+}
+
+/// Whether the byte is a letter or `_`.
+fn is_letter(byte: u8) -> bool
+    ensures { result ≡ tokens.is_letter byte }
+{
+    byte.is_ascii_alphabetic() || byte == b'_'
 }

@@ -1,5 +1,6 @@
 mod FilesInTurn
 mod InputOnce
 pub mod NoFiles
+mod NoReports
 mod OutputBytes
 mod ReportStatuses

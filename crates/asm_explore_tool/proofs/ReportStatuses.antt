@@ -1,7 +1,7 @@
 -- Free. No report has the status of a fault.
 --     of_report        the status of a report
 --     of_answer        of help or the version, too
-use Rattle.std.proofs.Common.{◌≡◌, ℕ, List, [], ◌∷◌, Option, inl, inr, arith, refl, subst}
+use Rattle.std.proofs.Common.{◌≡◌, ℕ, List, [], ◌∷◌, Option, inl, inr, arith, subst}
 use Rattle.clap.specs.Walk.{Text}
 use Rattle.asm_meaning.specs.Run.{AtExhausted, AtFault, AtLimit, End}
 use Rattle.asm_explore.specs.declared.exploration_result.Finding.{Finding}
@@ -21,16 +21,15 @@ use Rattle.asm_explore_tool.specs.Outputs.{IsAnswer, IsReportOf}
 apart : (status n : ℕ) → status ≡ n → (IsOfFault n → ⊥) → IsOfFault status → ⊥
 apart status n is not fault = not (subst IsOfFault is fault)
 
-of_finding : (found : Finding) → (found ≡ finding.StatesRepeated → ⊥) → IsOfFault (all.status_of found) → ⊥
-of_finding finding.Closed never f = omega (arith, f.0)
-of_finding (finding.SafeTo depth) never f = omega (arith, f.0)
-of_finding (finding.BadStep bad) never f = omega (arith, f.0)
-of_finding finding.WrongFirst never f = omega (arith, f.0)
-of_finding (finding.Unwritten unwritten) never f = omega (arith, f.0)
-of_finding (finding.TooManyStates safe_to) never f = omega (arith, f.1)
-of_finding finding.StatesRepeated never f = never refl
-of_finding (finding.TooManyOutcomes safe_to crowd) never f = omega (arith, f.1)
-of_finding (finding.NoMemory safe_to) never f = omega (arith, f.1)
+of_finding : (found : Finding) → IsOfFault (all.status_of found) → ⊥
+of_finding finding.Closed f = omega (arith, f.0)
+of_finding (finding.SafeTo depth) f = omega (arith, f.0)
+of_finding (finding.BadStep bad) f = omega (arith, f.0)
+of_finding finding.WrongFirst f = omega (arith, f.0)
+of_finding (finding.Unwritten unwritten) f = omega (arith, f.0)
+of_finding (finding.TooManyStates safe_to) f = omega (arith, f.1)
+of_finding (finding.TooManyOutcomes safe_to crowd) f = omega (arith, f.1)
+of_finding (finding.NoMemory safe_to) f = omega (arith, f.1)
 
 of_random : (found : RandomFinding) → IsOfFault (random_status found) → ⊥
 of_random random.Nothing f = omega (arith, f.0)
@@ -52,11 +51,7 @@ of_clash (AtFault step U) f = omega (arith, f.0)
 module _ (contents : Text → Option (List ℕ)) (input : Option (List ℕ)) (before after : Option (List MadeFile)) where
   pub of_report : (asked : Task) (report : Report) → IsReportOf contents input before after asked report → IsOfFault report.status → ⊥
   of_report (task.All settings) report h =
-      let is = h.reported.2 in
-      let q = is.explored.asked in
-      let links = is.explored.is_asked.always.links in
-      apart report.status _ is.status
-      (of_finding is.answer.finding (λ same. subst (λ found. all.WordsTell q.checked links q.question.turns found is.printed.words) same is.printed.tell))
+      let is = h.reported.2 in apart report.status _ is.status (of_finding is.found.answer.finding)
   of_report (task.Random settings) report h = apart report.status _ h.1.reported.status (of_random h.1.reported.answer.finding)
   of_report (task.Choices settings) report h =
       let is = h.1.reported in

@@ -11,8 +11,14 @@
 --     IsHelp                      words are refused, and ask for help or for the version: some text
 --                                 is written
 --     IsAnswer                    one of the two; help makes no file
---     HasNoReport                 why words that are taken have no report, and what of one is
---                                 written: nothing, unless the output failed
+--     LeavesFilesOfAll            without a report for settings of `all`: no file is made, or those
+--                                 that they ask for are begun
+--     LeavesFilesOf               the same for a command with its settings; the other commands make
+--                                 no file
+--     IsWithoutReport             words that are taken have no report: nothing is written, and the
+--                                 files are left so
+--     HasNoReport                 the fault for which they have none; or the output failed, and a
+--                                 front of the report is written, whose files are made
 --     AreRefused                  why words are refused, and what is written
 --     IsExplained                 one of the two says why the status is what it is; for refused words
 --                                 no file is made
@@ -26,7 +32,7 @@ use Rattle.asm_explore_tool.specs.GivenTexts.{AreGiven, AreRandomGiven, AreRunTe
 use Rattle.asm_explore_tool.specs.declared.no_answer.NoAnswer.{NoAnswer}
 use Rattle.asm_explore_tool.specs.declared.no_answer.NoAnswer.TheVariants as no_answer
 use Rattle.asm_explore_random.specs.RandomReport.{IsRandomReported}
-use Rattle.asm_explore_all.specs.AllReport.{IsReportedBy}
+use Rattle.asm_explore_all.specs.AllReport.{AreBegunBy, IsReportedBy}
 use Rattle.asm_explore_all.specs.MadeFiles.{MadeFile, Makes}
 use Rattle.asm_explore_run.specs.RunReport.{AreChoicesReported, IsClashReported}
 use Rattle.asm_explore_words.specs.WordsSaid.{AreSaidBehind, AskForHelp, task_refusals}
@@ -71,6 +77,20 @@ module _ (contents : Text → Option (List ℕ)) (input : Option (List ℕ)) whe
   IsReportOf before after (Choices settings) report = Makes before after [] × IsReportOfRun AreChoicesReported settings report
   IsReportOf before after (Clash settings) report = Makes before after [] × IsReportOfRun IsClashReported settings report
 
+  -- ---- without a report
+
+  abbrev pub LeavesFilesOfAll : (before after : Option (List MadeFile)) → Settings → Type 0
+  LeavesFilesOfAll before after settings =
+      Makes before after []
+      ⊎ ((text : List ℕ) × (conditions : Conditions) × IsText contents input settings.spec.now text × AreGiven contents settings conditions
+      × AreBegunBy text conditions settings before after)
+
+  abbrev pub LeavesFilesOf : (before after : Option (List MadeFile)) → Task → Type 0
+  LeavesFilesOf before after (All settings) = LeavesFilesOfAll before after settings
+  LeavesFilesOf before after (Random settings) = Makes before after []
+  LeavesFilesOf before after (Choices settings) = Makes before after []
+  LeavesFilesOf before after (Clash settings) = Makes before after []
+
 -- some text is written, which the library that reads the words has for them
 abbrev pub IsHelp : (IsWritten : List ℕ → Type 0) → Kinds → Type 0
 IsHelp IsWritten kinds = AskForHelp kinds × ((text : List ℕ) × IsWritten text)
@@ -98,11 +118,17 @@ module _ (old new : Option (List ℕ)) (has_failed : Bool) where
   AreRefused kinds fault = ⊥
 
   module _ (contents : Text → Option (List ℕ)) (input : Option (List ℕ)) (before after : Option (List MadeFile)) (words : List Text) where
+    pub record IsWithoutReport : Type 0 where
+      pub task : Task
+      pub said : AreSaidBehind words task
+      pub left : LeavesFilesOf contents input before after task
+      pub kept : Keeps old new
+
     abbrev pub HasNoReport : NoAnswer → Type 0
     HasNoReport (no_answer.Words error) = ⊥
     HasNoReport no_answer.NotText = ⊥
     HasNoReport no_answer.Write = IsTrue has_failed × ((status : ℕ) × IsOutput contents input (AppendsUpTo old new) before after words status)
-    HasNoReport fault = Keeps old new
+    HasNoReport fault = IsWithoutReport
 
     abbrev pub Explains : NoAnswer → Type 0
     Explains fault = ((task_refusals words ≡ []) × HasNoReport fault) ⊎ (Makes before after [] × AreRefused (task_refusals words) fault)

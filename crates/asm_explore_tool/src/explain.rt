@@ -30,9 +30,6 @@ fn message<W: Write>(fault: &NoAnswer<'_>, out: &mut W) -> fmt::Result {
         NoAnswer::Unconfirmed => {
             out.write_str("asm-explore: an error of this program: the script leads to no fault\n")
         }
-        NoAnswer::StatesRepeated => {
-            out.write_str("asm-explore: an error of this program: a state was reached twice\n")
-        }
     }
 }
 

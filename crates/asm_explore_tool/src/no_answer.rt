@@ -29,8 +29,6 @@ pub enum NoAnswer<'w> {
     QuietScript(&'w str),
     /// The run under the script that was found ends otherwise than it was found to.
     Unconfirmed,
-    /// Of the states that were reached two are the same.
-    StatesRepeated,
 }
 
 impl<'w> NoAnswer<'w> {
@@ -42,7 +40,7 @@ impl<'w> NoAnswer<'w> {
             NoAnswer::Text(_) => 2,
             NoAnswer::Memory | NoAnswer::File(_) | NoAnswer::Write => 3,
             NoAnswer::Graph(_) | NoAnswer::QuietScript(_) => 3,
-            NoAnswer::Unconfirmed | NoAnswer::StatesRepeated => 3,
+            NoAnswer::Unconfirmed => 3,
             NoAnswer::Words(_) | NoAnswer::NotText => 4,
         }
     }
@@ -85,7 +83,6 @@ impl<'w> From<Fault<'w>> for NoAnswer<'w> {
             Fault::Graph(name) => NoAnswer::Graph(name),
             Fault::QuietScript(name) => NoAnswer::QuietScript(name),
             Fault::Unconfirmed => NoAnswer::Unconfirmed,
-            Fault::StatesRepeated => NoAnswer::StatesRepeated,
         }
     }
 }

@@ -1,7 +1,7 @@
 //! The reports that words ask for.
-ghost use Rattle.std.specs.Prelude.{◌≡◌, false, IfOk, IfErr};
+ghost use Rattle.std.specs.Prelude.{◌≡◌, false, IfOk, IfErr, OnErr};
 ghost use Rattle.asm_explore_tool.specs.Faults.{IsOfReport};
-ghost use Rattle.asm_explore_tool.specs.Outputs.{IsReportOf, IsReportOfAll, IsReportOfRandom, IsReportOfRun};
+ghost use Rattle.asm_explore_tool.specs.Outputs.{IsReportOf, IsReportOfAll, IsReportOfRandom, IsReportOfRun, LeavesFilesOf, LeavesFilesOfAll};
 ghost use Rattle.asm_explore_run.specs.RunReport.{AreChoicesReported, IsClashReported};
 ghost use Rattle.asm_explore_words.specs.WordsSaid.{reads_input_twice, reads_task_twice};
 
@@ -27,6 +27,7 @@ use std::thread::Threads;
 use std::time::Clock;
 
 /// The report for a command with its settings.
+#[tactic(auto, using(crate::proofs::NoFiles::makes_none))]
 pub(crate) fn report<'w, R: Threads + Clock + Sync, F: Folder + NewFiles, I: Read + Drop, E: Sink>(
     rt: &R,
     folder: &mut F,
@@ -38,6 +39,7 @@ pub(crate) fn report<'w, R: Threads + Clock + Sync, F: Folder + NewFiles, I: Rea
     requires { reads_task_twice task.now ≡ false }
     ensures report { IfOk result (IsReportOf (F.contents folder.old) (I.remaining input) (F.made folder.old) (F.made folder.new) task.now) }
     ensures none { IfErr result IsOfReport }
+    ensures left { OnErr result (LeavesFilesOf (F.contents folder.old) (I.remaining input) (F.made folder.old) (F.made folder.new) task.now) }
 {
     match task {
         Task::All(settings) => {
@@ -90,6 +92,7 @@ fn report_of_clash<'w, R: Threads + Sync, F: Folder, I: Read + Drop>(
 }
 
 /// The report for settings of `all`.
+#[tactic(auto, using(crate::proofs::NoFiles::makes_none))]
 fn report_of_all<'w, R: Threads + Sync, F: Folder + NewFiles, I: Read + Drop, W: Watch<Progress>>(
     rt: &R,
     folder: &mut F,
@@ -100,6 +103,7 @@ fn report_of_all<'w, R: Threads + Sync, F: Folder + NewFiles, I: Read + Drop, W:
 ) -> Result<Report, NoAnswer<'w>>
     ensures report { IfOk result (IsReportOfAll (F.contents folder.old) (I.remaining input) (F.made folder.old) (F.made folder.new) settings.now) }
     ensures none { IfErr result IsOfReport }
+    ensures left { OnErr result (LeavesFilesOfAll (F.contents folder.old) (I.remaining input) (F.made folder.old) (F.made folder.new) settings.now) }
 {
     let spec = settings.spec;
     let text = text(folder, alloc, Source::Specification(spec), spec, input)?;

@@ -49,7 +49,7 @@ pub fn status<
     ensures finished { ¬ (IsOfFault result) → IsTrue (O.is_finished out.new) }
     ensures quiet { task_refusals (map S.text words.entry.now) ≢ [] → result ≡ 0 → Keeps (E.bytes err.old) (E.bytes err.new) }
     // 2 to 4: a fault with this status says why. Nothing is written then, or a front of it if the
-    // output failed.
+    // output failed. No file is made, unless all runs were looked at: then its files may be begun.
     ensures explained { IsOfFault result →
         IsExplained (O.bytes out.old) (O.bytes out.new) (O.has_failed out.new) (F.contents folder.old) (I.remaining input) (F.made folder.old) (F.made folder.new) (map S.text words.entry.now) result }
 {

@@ -31,6 +31,10 @@ two_files_are_taken : task_refusals (codes "all" ∷ codes "--dot" ∷ codes "g"
 unfolding command clap_on_literals
 two_files_are_taken = refl
 
+condition_beside_two_files : task_refusals (codes "all" ∷ codes "--dot" ∷ codes "g" ∷ codes "--quiet" ∷ codes "s" ∷ codes "--always-file" ∷ codes "f" ∷ codes "-" ∷ []) ≡ []
+unfolding command clap_on_literals
+condition_beside_two_files = refl
+
 input_is_no_file : task_refusals (codes "all" ∷ codes "--dot" ∷ codes "-" ∷ codes "-" ∷ []) ≡ []
 unfolding command clap_on_literals
 input_is_no_file = refl
@@ -72,6 +76,14 @@ graph_over_text = refl
 script_over_text : task_refusals (codes "all" ∷ codes "--quiet" ∷ codes "x.asm" ∷ one) ≡ ArgumentConflict ∷ []
 unfolding command clap_on_literals
 script_over_text = refl
+
+graph_over_condition : task_refusals (codes "all" ∷ codes "--always-file" ∷ codes "f" ∷ codes "--always-file" ∷ codes "g" ∷ codes "--dot" ∷ codes "g" ∷ one) ≡ ArgumentConflict ∷ []
+unfolding command clap_on_literals
+graph_over_condition = refl
+
+script_over_condition : task_refusals (codes "all" ∷ codes "--quiet" ∷ codes "f" ∷ codes "--always-file" ∷ codes "f" ∷ one) ≡ ArgumentConflict ∷ []
+unfolding command clap_on_literals
+script_over_condition = refl
 
 -- ---- what is asked for
 

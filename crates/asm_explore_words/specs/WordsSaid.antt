@@ -1,7 +1,7 @@
 -- Definition. What words say.
 --     AreSaid words settings        the settings are those that the words after `all` give: the graph
 --                                   and the script aren't both written to one file, nor one of them
---                                   to that of the text
+--                                   to that of the text or of a condition
 --     AreRandomSaid words settings  the same after `random`
 --     AreRunSaid words settings     the same after `choices` and `clash`: the text and the script
 --                                   aren't both standard input
@@ -17,6 +17,7 @@
 use Rattle.std.specs.Prelude.{◌≡◌, ◌⊎◌, ℕ, Bool, true, false, not, ◌&&◌, ◌||◌, List, [], ◌∷◌, Option, Some, None, cond, option_map, codes, is_some, ⊤}
 use Rattle.std.specs.Option.{option_map_or}
 use Rattle.std.specs.Prelude.{find}
+use Rattle.std.specs.List.{list_any}
 use Rattle.std.specs.Str.{bytes_eq}
 use Rattle.std.specs.Str.Parse.{digits_value, without_leading_plus}
 use Rattle.clap.specs.Kinds as kinds
@@ -156,15 +157,20 @@ is_one_file (Some name) (Some other) = bytes_eq name other
 abbrev pub is_over_text : (spec dot quiet : Option Text) → Bool
 is_over_text spec dot quiet = not (is_input spec) && (is_one_file spec dot || is_one_file spec quiet)
 
--- two of the text, the graph and the script would be in one file
-abbrev pub are_two_in_one : (spec dot quiet : Option Text) → Bool
-are_two_in_one spec dot quiet = is_one_file dot quiet || is_over_text spec dot quiet
+-- the graph or the script would be written to one of the files that conditions are read from; none
+-- of these is standard input
+abbrev pub is_over_conditions : (files : List Text) → (dot quiet : Option Text) → Bool
+is_over_conditions files dot quiet = list_any (λ file. is_one_file (Some file) dot || is_one_file (Some file) quiet) files
+
+-- the graph and the script would be in one file, or one of them in a file that is read
+abbrev pub are_two_in_one : (spec : Option Text) → (files : List Text) → (dot quiet : Option Text) → Bool
+are_two_in_one spec files dot quiet = is_one_file dot quiet || (is_over_text spec dot quiet || is_over_conditions files dot quiet)
 
 -- the words name one file for two of them
 abbrev pub are_one_file : List Text → Bool
 are_one_file words =
     let rows = all_rows words in
-    are_two_in_one (first_of (codes "spec") rows) (first_of (codes "dot") rows) (first_of (codes "quiet") rows)
+    are_two_in_one (first_of (codes "spec") rows) (all_of (codes "always-file") rows) (first_of (codes "dot") rows) (first_of (codes "quiet") rows)
 
 abbrev pub AreTaken : List Text → Type 0
 AreTaken words = (refusals words ≡ []) × (are_one_file words ≡ false)

@@ -100,7 +100,8 @@ fn all_task<'w, S: AsStr>(alloc: Global, words: &'w [S]) -> Result<Task<'w>, Wor
     ensures refused { IfErr result (IsRefusal (all_refusals (map S.text words.entry.now))) }
 {
     let settings = all_settings(alloc, words)?;
-    if let Some(said) = two_in_one(settings.spec, settings.dot, settings.quiet) {
+    let conditions = settings.always_files.as_slice();
+    if let Some(said) = two_in_one(settings.spec, conditions, settings.dot, settings.quiet) {
         drop(settings);
         return Err(both_are_one_file(alloc, said));
     }

@@ -34,8 +34,6 @@ pub enum TextError {
     Check(CheckError),
     /// It is no script.
     Script(ScriptError),
-    /// It is to be a condition, and is more than one term.
-    MoreThanATerm,
 }
 
 /// A text that is refused.
@@ -43,7 +41,7 @@ pub enum TextError {
 pub struct RefusedText<'w> {
     pub source: Source<'w>,
     pub text: Vec<u8>,
-    /// What is wrong. Of a condition its offsets aren't those of the text, but `at` is.
+    /// What is wrong.
     pub error: TextError,
     /// Where it is wrong: an offset of this text, or its length.
     pub at: Option<usize>,
@@ -62,8 +60,6 @@ pub enum Fault<'w> {
     QuietScript(&'w str),
     /// The run under the script that was found ends otherwise than it was found to.
     Unconfirmed,
-    /// Of the states that were reached two are the same.
-    StatesRepeated,
 }
 
 impl<'w> From<AllocError> for Fault<'w> {

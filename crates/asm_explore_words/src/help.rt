@@ -45,6 +45,9 @@ pub const ONE_FILE: &str = "the graph and the script can't both be written to on
 pub const OVER_SPECIFICATION: &str =
     "the graph and the script can't be written to the file of the specification";
 
+pub const OVER_CONDITION: &str =
+    "the graph and the script can't be written to the file of a condition";
+
 pub const TRACE: &str = "Show the trace of the run to a fault, before its script";
 
 pub const PROGRESS: &str = "Report progress on standard error; the default if that is a terminal";

@@ -16,9 +16,6 @@ impl Display for TextError {
             TextError::Script(error) => {
                 write!(f, "script {}: {}", error.number(), of_script(*error))
             }
-            TextError::MoreThanATerm => {
-                f.write_str("a condition is one term, and this text goes on behind it")
-            }
         }
     }
 }
@@ -52,9 +49,7 @@ fn of_script(error: ScriptError) -> &'static str {
 
 fn of_bytes(error: LexError) -> &'static str {
     match error {
-        LexError::TooLong => {
-            "this has more than 1,048,576 bytes, a condition together with its specification"
-        }
+        LexError::TooLong => "this has more than 1,048,576 bytes",
         LexError::BadByte { .. } => {
             "no token begins with this; the language has no semicolons, quotes or fractions"
         }

@@ -1,6 +1,7 @@
 //! What the program is asked to do.
 ghost use Rattle.std.specs.Prelude.{◌≡◌, Some, is_some, option_map};
-ghost use Rattle.asm_explore_words.specs.WordsSaid.{IsFaultOf, are_two_in_one, is_input, is_one_file, is_over_text};
+ghost use Rattle.clap.specs.Walk.{texts};
+ghost use Rattle.asm_explore_words.specs.WordsSaid.{IsFaultOf, are_two_in_one, is_input, is_one_file, is_over_conditions, is_over_text};
 ghost use Rattle.asm_explore_words.specs.declared.settings.WordFault.TheVariants.{Memory};
 
 use crate::help;
@@ -122,16 +123,24 @@ impl From<Error> for WordFault {
     }
 }
 
-/// What is to be said if two of the specification, the graph and the script would be in one file, by
-/// these names.
-pub(crate) fn two_in_one(spec: &str, dot: Option<&str>, quiet: Option<&str>) -> Option<&'static str>
-    ensures { is_some result ≡ are_two_in_one (Some spec.now) (option_map (λ text. text.now) dot.entry) (option_map (λ text. text.now) quiet.entry) }
+/// What is to be said if the graph and the script would be in one file, or one of them in the file
+/// of the specification or of a condition, by these names.
+pub(crate) fn two_in_one(
+    spec: &str,
+    conditions: &[&str],
+    dot: Option<&str>,
+    quiet: Option<&str>,
+) -> Option<&'static str>
+    ensures { is_some result ≡ are_two_in_one (Some spec.now) (texts conditions.now) (option_map (λ text. text.now) dot.entry) (option_map (λ text. text.now) quiet.entry) }
 {
     if is_same_file(dot, quiet) {
         return Some(help::ONE_FILE);
     }
     if is_over_specification(spec, dot, quiet) {
         return Some(help::OVER_SPECIFICATION);
+    }
+    if is_over_condition(conditions, dot, quiet) {
+        return Some(help::OVER_CONDITION);
     }
     None
 }
@@ -141,6 +150,19 @@ fn is_over_specification(spec: &str, dot: Option<&str>, quiet: Option<&str>) -> 
     ensures { result ≡ is_over_text (Some spec.now) (option_map (λ text. text.now) dot.entry) (option_map (λ text. text.now) quiet.entry) }
 {
     !is_standard_input(Some(spec)) && (is_named(spec, dot) || is_named(spec, quiet))
+}
+
+/// Whether the graph or the script would be written to one of the files that conditions are read
+/// from.
+fn is_over_condition(files: &[&str], dot: Option<&str>, quiet: Option<&str>) -> bool
+    ensures { result ≡ is_over_conditions (texts files.now) (option_map (λ text. text.now) dot.entry) (option_map (λ text. text.now) quiet.entry) }
+{
+    for k in 0..files.len() {
+        if is_named(files[k], dot) || is_named(files[k], quiet) {
+            return true;
+        }
+    }
+    false
 }
 
 /// Whether both name the same file.

@@ -2,13 +2,13 @@ use Rattle.std.proofs.Common.{[], ◌∷◌, ℕ, List, Option, inl, inr, refl, 
 use Rattle.std.specs.Borrow.{Bor}
 use Rattle.std.specs.Prelude.{IfNone, IfSome, option_map}
 use Rattle.std.specs.String.{string_bytes}
-use Rattle.asm_explore_all.specs.AllFacts.{HasTooMany, IsDrawn, IsGraphText, graph_note}
-use Rattle.asm_explore_all.specs.MadeFiles.{MadeFile, Makes}
+use Rattle.asm_explore_all.specs.AllFacts.{HasTooMany, IsBegun, IsDrawn, IsGraphText, graph_note}
+use Rattle.asm_explore_all.specs.MadeFiles.{Begins, MadeFile, Makes}
 use Rattle.asm_explore_all.proofs.GrowingFiles.{makes_none}
 use Rattle.asm_explore_all.proofs.graph_file.draw.Goals as goal
 
-pub returns-in_default-2 : goal.returns-in_default-2
-returns-in_default-2 g c =
+pub returns-in_default-2-clause-drawn : goal.returns-in_default-2-clause-drawn
+returns-in_default-2-clause-drawn g c =
     let asked = c.args.asked.now in
     let many = subst (λ o. IfNone o (HasTooMany asked)) c.in_default-2.is c.in_ok-text.ensures.many in (
       [],
@@ -16,8 +16,8 @@ returns-in_default-2 g c =
       subst (λ (file : Option (Bor (List ℕ))). IsDrawn asked (option_map (λ name. name.now) file) (graph_note ∷ []) []) (sym c.in-Some.is) (inr (many, refl, refl)),
     )
 
-pub returns-in-Ok : goal.returns-in-Ok
-returns-in-Ok g c =
+pub returns-in-Ok-clause-drawn : goal.returns-in-Ok-clause-drawn
+returns-in-Ok-clause-drawn g c =
     let asked = c.args.asked.now in
     let name = c.in-Some.name.now in
     let text = string_bytes c.in-Some-2.text in
@@ -27,3 +27,15 @@ returns-in-Ok g c =
       subst (λ (bytes : List ℕ). Makes (g.F.NewFiles.made c.args.files.now) (g.F.NewFiles.made c.make.new.self) ((name, bytes) ∷ [])) c.as_bytes.ensures.value c.in-Ok.ensures.made,
       subst (λ (file : Option (Bor (List ℕ))). IsDrawn asked (option_map (λ name. name.now) file) [] made) (sym c.in-Some.is) (inl (text, drawn, refl, refl)),
     )
+
+pub returns-clause-begun : goal.returns-clause-begun
+returns-clause-begun g c =
+    let asked = c.args.asked.now in
+    let name = c.in-Some.name.now in
+    let text = string_bytes c.in-Some-2.text in
+    let old = g.F.NewFiles.made c.args.files.now in
+    let new = g.F.NewFiles.made c.make.new.self in
+    let drawn = subst (λ o. IfSome o (λ dot. IsGraphText asked (string_bytes dot))) c.in-Some-2.is c.in_ok-text.ensures.few in
+    let made : List MadeFile = (name, text) ∷ [] in
+    let begins = subst (λ (bytes : List ℕ). Begins old new ((name, bytes) ∷ [])) c.as_bytes.ensures.value c.in-Err.ensures.begun in
+    subst (λ (file : Option (Bor (List ℕ))). IsBegun asked (option_map (λ name. name.now) file) old new) (sym c.in-Some.is) (inr ([], made, inl (text, drawn, refl, refl), begins))

@@ -4,8 +4,8 @@ use Rattle.asm_syntax.specs.SourceTree.{Spec}
 use Rattle.asm_syntax.specs.code.Views.{spec_of}
 use Rattle.asm_reader.specs.ScriptLines.{Script}
 use Rattle.asm_reader.specs.ScriptText.{IsScript}
+use Rattle.asm_explore.specs.Search.{steps_to}
 use Rattle.asm_run.specs.Headline.{IsReturned, book_run}
-use Rattle.asm_explore_report.specs.FaultWords.{shown_after}
 use Rattle.asm_explore_report.proofs.confirm_run.end_words.Goals as goal
 
 pub returns : goal.returns
@@ -17,11 +17,11 @@ returns g c accepted script spelled =
     let ends = c.in_ok-ended.ensures.end in
     let run = c.run_of.result in
     let text : run.script.now ≡ string_bytes bad.script = ap (λ x. x.0) c.run_of.ensures in
-    let steps : run.steps ≡ shown_after bad.fault bad.step = ap (λ x. x.1) c.run_of.ensures in
+    let steps : run.steps ≡ steps_to bad.fault bad.step = ap (λ x. x.1) c.run_of.ensures in
     let same_tree : ends.tree ≡ s = c.one_tree.ensures c.args.text.now _ _ ends.accepted.spelled accepted.spelled in
     let same_script : ends.script ≡ script = c.one_script.ensures run.script.now _ _ ends.spelled (subst (λ (t : List ℕ). IsScript t script) (sym text) spelled) in
-    let answered : IsReturned (book_run s turns script (shown_after bad.fault bad.step)).end end =
+    let answered : IsReturned (book_run s turns script (steps_to bad.fault bad.step)).end end =
     subst (λ (n : ℕ). IsReturned (book_run s turns script n).end end) steps
     (subst (λ (x : Script). IsReturned (book_run s turns x run.steps).end end) same_script
     (subst (λ (t : Spec). IsReturned (book_run t turns ends.script run.steps).end end) same_tree ends.answered)) in
-    c.in_ok-words.ensures (book_run s turns script (shown_after bad.fault bad.step)).end answered
+    c.in_ok-words.ensures (book_run s turns script (steps_to bad.fault bad.step)).end answered

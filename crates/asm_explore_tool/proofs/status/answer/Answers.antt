@@ -1,6 +1,8 @@
-use Rattle.std.proofs.Common.{inl, refl, subst}
+use Rattle.std.proofs.Common.{inl, map, refl, subst}
+use Rattle.std.proofs.lemmas.Result.{err_from_is_err_and}
 use Rattle.std.specs.Io.KnownBytes.{Appends}
 use Rattle.asm_explore_tool.specs.Outputs.{AppendsUpTo}
+use Rattle.asm_explore_tool.proofs.NoReports.{kept_alike, why_none}
 use Rattle.asm_explore_tool.proofs.status.answer.Goals as goal
 
 pub returns-in-Ok-written-clause-answered : goal.returns-in-Ok-written-clause-answered
@@ -37,3 +39,14 @@ returns-in-Ok-clause-explained g c =
         ),
       ),
     )
+
+pub returns-in_err-report-in-Ok-clause-explained : goal.returns-in_err-report-in-Ok-clause-explained
+returns-in_err-report-in-Ok-clause-explained g c =
+    let p = err_from_is_err_and c.from_residual.result c.from_residual.ensures.1 in
+    let known = g.O.Sink.bytes c.args.out.now in
+    let contents = g.F.Folder.contents c.args.folder.now in
+    let old = g.F.NewFiles.made c.args.folder.now in
+    let new = g.F.NewFiles.made c.report.new.folder in
+    let why = why_none known known (g.O.Sink.has_failed c.args.out.now) contents (g.I.Read.remaining c.args.input) old new (map g.S.AsStr.text c.args.words.now)
+    c.in_err-report-in-Ok.field-0.0 c.in_err-report-in-Ok.ensures.none (record { task = c.in-Ok.task; said = c.in-Ok.ensures.said; left = c.in_err-report-in-Ok.ensures.left; kept = kept_alike known }) in
+    rw (p.1, p.2) (inl (c.in-Ok.ensures.taken, why))

@@ -1,0 +1,4 @@
+use Rattle.asm_explore_all.proofs.checked_question.ask.Goals as goal
+
+pub returns-in-Ok : goal.returns-in-Ok
+returns-in-Ok c = c.in-Ok.ensures c.args.text.now c.in_ok-checked.ensures

@@ -1,0 +1,13 @@
+use Rattle.std.proofs.Common.{◌≡◌, ◌∙◌, length, sym, ap, arith}
+use Rattle.std.specs.List.{list_all}
+use Rattle.asm_explore_texts.specs.Positions.{is_name_at}
+use Rattle.asm_explore_run.proofs.BoundNames.{names_for}
+use Rattle.asm_explore_run.proofs.assignment_line.are_names.Goals as goal
+
+pub returns-then-is_name_at : goal.returns-then-is_name_at
+returns-then-is_name_at c = λ are.
+    let text = c.args.text.now in
+    let rule = c.args.rule.now in
+    let long : length rule.bound.items ≡ length c.args.values.now = omega (arith, c.if-len-values.false, c.len.ensures) in
+    let all = sym (ap (λ names. list_all (λ name. is_name_at text name.now.at) names) c.as_slice.ensures.value) ∙ sym c.are_all_in.ensures ∙ are in
+    names_for text rule.name.now.at rule.bound.items c.args.values.now (sym c.is_name_at.ensures ∙ c.if-is_name_at.true) long all
