@@ -17,7 +17,8 @@ use Rattle.asm_meaning.specs.Program.{Program, nothing_bound}
 use Rattle.asm_meaning.specs.Run.{Specification, run}
 use Rattle.asm_meaning.specs.Value.{Reading}
 use Rattle.asm_resolve.specs.code.ResolvedTerms.{Agrees}
-use Rattle.asm_explore.specs.ExplorationResults.{Claims, IsAliveOrCrowded, IsEarliest, IsExplorationResult, IsSafeIf}
+use Rattle.asm_explore.specs.Search.{IsAliveOrCrowded}
+use Rattle.asm_explore.specs.ExplorationResults.{Claims, IsEarliest, IsExplorationResult, IsSafeIf}
 use Rattle.asm_explore.specs.declared.fault.Fault.{Fault}
 use Rattle.asm_explore.specs.declared.exploration_result.ExplorationResult.{ExplorationResult}
 use Rattle.asm_explore.specs.declared.exploration_result.Finding.{Finding}
@@ -71,7 +72,7 @@ module _ (specification : Specification) (turns : ℕ) (crowds throngs : State �
     outranked = λ other script k less stays. by_alive right rests within (run specification turns script k).last (h.outranked other script k less stays);
   }
     where
-      by_alive : (right rests within : State → Bool) (A : State) → IsAliveOrCrowded specification turns crowds steps limit right rests within A → IsAliveOrCrowded specification turns throngs steps limit right rests within A
+      by_alive : (right rests within : State → Bool) (A : State) → IsAliveOrCrowded specification turns crowds rests A → IsAliveOrCrowded specification turns throngs rests A
       by_alive right rests within A (inl alive) = inl alive
       by_alive right rests within A (inr crowded) = inr (crowded.0, f A crowded.0 crowded.1)
 
@@ -111,6 +112,7 @@ module _ (specification : Specification) (turns : ℕ) (crowds throngs : State �
         reached = h.reached;
         different = h.different;
         count = h.count;
+        room = h.room;
         reach = h.reach;
         looked = h.looked;
         quiet = h.quiet;

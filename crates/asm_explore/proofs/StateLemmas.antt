@@ -2,6 +2,7 @@
 pub mod AddedNodes
 pub mod Batches
 pub mod Bytes
+pub mod FreeSlots
 pub mod IndexedNodes
 pub mod LastStates
 pub mod LookedStates

@@ -18,7 +18,7 @@
 --     IsQuietRun           the run of `rest.steps` steps under the script comes to a quiet state,
 --                          and no shorter one does; its lines are those of the choices of this run
 --     IsExplorationResult  what the whole result says
-use Rattle.std.specs.Prelude.{◌≡◌, ◌≢◌, ◌≤◌, ◌<◌, ◌⊎◌, ◌-◌, ℕ, suc, Bool, true, false, List, ◌∷◌, length, take, Option, Some, None, IfSome}
+use Rattle.std.specs.Prelude.{◌≡◌, ◌≢◌, ◌≤◌, ◌<◌, ◌⊎◌, ◌-◌, ℕ, suc, Bool, true, false, List, ◌∷◌, length, max, take, Option, Some, None, IfSome}
 use Rattle.std.specs.String.{string_bytes}
 use Rattle.asm_state.specs.Location.{State}
 use Rattle.asm_reader.specs.code.ExactLines.{exactly}
@@ -36,7 +36,7 @@ use Rattle.asm_explore.specs.declared.outcomes.outcomes_error.RuleOverLimit.{Rul
 use Rattle.asm_explore.specs.declared.exploration_result.Finding.TheVariants as finding
 use Rattle.asm_explore.specs.ChosenLines.{AreTooLong, chosen_lines}
 use Rattle.asm_explore.specs.code.ListElements.{Each}
-use Rattle.asm_explore.specs.Search.{IsQuiet, IsDeadlock, IsSafeUpTo, IsSafe, HoldsBefore, HoldsAlways, GoesWrongIn, StaysWithin, steps_to}
+use Rattle.asm_explore.specs.Search.{IsAliveOrCrowded, IsQuiet, IsDeadlock, IsSafeUpTo, IsSafe, HoldsBefore, HoldsAlways, GoesWrongIn, StaysWithin, steps_to}
 use Rattle.asm_explore.specs.StateLists.{AreDifferent, Counts, IsAmongFirst}
 use Rattle.asm_explore.specs.code.WrittenScripts.{IsTextOf}
 
@@ -82,10 +82,6 @@ module _ (specification : Specification) (turns : ℕ) (crowds : State → RuleO
   abbrev IsAlive : State → Type 0
   IsAlive A = ¬ (IsDeadlock specification turns rests A)
 
-  -- or its step has too many outcomes to tell
-  abbrev pub IsAliveOrCrowded : State → Type 0
-  IsAliveOrCrowded A = IsAlive A ⊎ ((crowd : RuleOverLimit) × crowds A crowd)
-
   -- each run of at most `depth` steps that stays within is fine
   abbrev IsFineTo : (depth : ℕ) → Type 0
   IsFineTo depth = IsSafeUpTo specification turns within (λ A. right A ≡ true) depth
@@ -104,7 +100,7 @@ module _ (specification : Specification) (turns : ℕ) (crowds : State → RuleO
     pub next : step ≡ suc before
     pub fine : IsFineTo before
     pub alive : HoldsBefore specification turns within IsAlive before
-    pub outranked : kind ≢ fault.Deadlock → HoldsBefore specification turns within IsAliveOrCrowded (suc before)
+    pub outranked : kind ≢ fault.Deadlock → HoldsBefore specification turns within (IsAliveOrCrowded specification turns crowds rests) (suc before)
 
   pub record IsBadRun (bad : BadRun) : Type 0 where
     pub lines : List Line
@@ -138,10 +134,12 @@ module _ (specification : Specification) (turns : ℕ) (crowds : State → RuleO
   Claims reached (finding.Unwritten unwritten) = IsUnwritten unwritten
 
   pub record IsExplorationResult (answer : ExplorationResult) : Type 0 where
-    -- `answer.states` different states, each by a run of at most `answer.depth` steps
+    -- `answer.states` different states, no more than the limit, or one if this is 0, each by a run
+    -- of at most `answer.depth` steps
     pub reached : List State
     pub different : AreDifferent reached
     pub count : length reached ≡ answer.states
+    pub room : answer.states ≤ max limit 1
     pub reach : Each (IsReachedBy specification turns within answer.depth) reached
     pub found : Claims reached answer.finding
     -- the first `looked` of them were looked at, if runs are followed from them. Of these

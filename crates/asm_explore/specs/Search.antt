@@ -2,6 +2,7 @@
 --     LeadsOn r A known       what a step yields in a state leads on to a state that is known
 --     IsQuiet A               whatever is chosen, the step from the state changes nothing
 --     IsDeadlock A            the state is quiet, and isn't one in which a run may rest
+--     IsAliveOrCrowded A      it is no deadlock, or its step has too many outcomes to tell
 --     IsFine r ok             a run ends at its limit, in a state that is right
 --     StaysWithin             a run of `limit` steps is gone on with from states alone that are
 --                             within
@@ -18,7 +19,7 @@
 --     Covers                  states by the depth up to which they are known: they are right, and
 --                             no step from one of them that is within has a fault, nor leads to a
 --                             state that isn't known one step deeper
-use Rattle.std.specs.Prelude.{◌≡◌, ℕ, suc, ◌≤◌, ◌<◌, ◌-◌, Bool, true, false, []}
+use Rattle.std.specs.Prelude.{◌≡◌, ◌⊎◌, ℕ, suc, ◌≤◌, ◌<◌, ◌-◌, Bool, true, false, []}
 use Rattle.asm_state.specs.Location.{State}
 use Rattle.asm_state.specs.Updates.{UpdateSet, IsConsistent, fire}
 use Rattle.asm_reader.specs.ScriptLines.{Script}
@@ -28,6 +29,7 @@ use Rattle.asm_meaning.specs.Run.{Run, AtLimit, AtExhausted, AtFault, Specificat
 use Rattle.asm_meaning.specs.Yields.{Path, Result, Gives}
 use Rattle.asm_explore.specs.declared.fault.Fault.{Fault}
 use Rattle.asm_explore.specs.declared.fault.Fault.TheVariants as fault
+use Rattle.asm_explore.specs.declared.outcomes.outcomes_error.RuleOverLimit.{RuleOverLimit}
 
 -- what a step yields in a state leads on to a state that is known
 pub record LeadsOn (r : Result) (A : State) (known : State → Type 0) : Type 0 where
@@ -43,6 +45,9 @@ IsQuiet specification turns A =
 
 abbrev pub IsDeadlock : Specification → (turns : ℕ) → (rests : State → Bool) → State → Type 0
 IsDeadlock specification turns rests A = IsQuiet specification turns A × (rests A ≡ false)
+
+abbrev pub IsAliveOrCrowded : Specification → (turns : ℕ) → (crowds : State → RuleOverLimit → Type 0) → (rests : State → Bool) → State → Type 0
+IsAliveOrCrowded specification turns crowds rests A = ¬ (IsDeadlock specification turns rests A) ⊎ ((crowd : RuleOverLimit) × crowds A crowd)
 
 abbrev pub IsFine : (ok : State → Type 0) → Run → Type 0
 IsFine ok r = (r.end ≡ AtLimit) × ok r.last

@@ -7,14 +7,14 @@ use crate::outcomes::outcomes_error::RuleOverLimit;
 pub struct BadRun {
     /// The text of a script.
     pub script: String,
-    /// The run under this script goes wrong in this step, and no run goes wrong before. A deadlock is
-    /// the state that the step begins in.
+    /// The run under this script goes wrong in this step, and no run goes wrong before. A deadlock
+    /// is the state that the step begins in.
     pub step: u64,
     pub fault: Fault,
 }
 
-/// A run that goes wrong, whose choices have no script: their lines are longer than a script may be,
-/// or have a number of more than nine digits.
+/// A run that goes wrong, whose choices have no script: their lines are longer than a script may
+/// be, or have a number of more than nine digits.
 #[derive(Clone, Copy, Debug, PartialEq, Eq)]
 pub struct Unwritten {
     /// The run goes wrong in this step, and no run goes wrong before.
@@ -46,8 +46,8 @@ pub enum Finding {
     WrongFirst,
     /// There are more states than the limit says. It is safe up to that many steps, if any.
     TooManyStates(Option<u32>),
-    /// There are more outcomes of a step than the limit says, of the rule at a path. It is safe up to
-    /// that many steps, if any.
+    /// There are more outcomes of a step than the limit says, of the rule at a path. It is safe up
+    /// to that many steps, if any.
     TooManyOutcomes {
         safe: Option<u32>,
         crowd: RuleOverLimit,

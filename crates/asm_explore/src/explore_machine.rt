@@ -4,13 +4,13 @@ ghost use Rattle.asm_state.specs.code.Contents.{IsStateOf};
 ghost use Rattle.asm_state.specs.Location.{State as Contents};
 ghost use Rattle.asm_state.specs.Signature.{count_of, state_of};
 ghost use Rattle.asm_explore.specs.declared.fault.Fault.TheVariants.{Deadlock};
-ghost use Rattle.asm_explore.specs.ExplorationResults.{Claims, IsAliveOrCrowded, IsExplorationResult, IsLookedThrough, IsQuietRun};
+ghost use Rattle.asm_explore.specs.ExplorationResults.{Claims, IsExplorationResult, IsLookedThrough, IsQuietRun};
 ghost use Rattle.asm_explore.specs.code.PackedNodes.{Node};
 ghost use Rattle.asm_explore.specs.code.OutcomeLists.{Each};
 ghost use Rattle.asm_explore.specs.code.QuietStates.{IsFirstQuiet};
 ghost use Rattle.asm_explore.specs.code.ReachedStates.{AreInside, GoesWrongSo, IsGood, IsLinked, Rises};
 ghost use Rattle.asm_explore.specs.code.StepOutcomes.{IsOverLimitOf};
-ghost use Rattle.asm_explore.specs.Search.{HoldsBefore, IsDeadlock, IsSafeUpTo, steps_to};
+ghost use Rattle.asm_explore.specs.Search.{HoldsBefore, IsAliveOrCrowded, IsDeadlock, IsSafeUpTo, steps_to};
 ghost use Rattle.asm_explore.specs.StateLists.{IsAmongFirst};
 
 use crate::exploration_result::{BadRun, ExplorationResult, Finding, QuietRun, Unwritten};
@@ -67,7 +67,7 @@ fn bad_run<M: Machine>(
     requires deep { (n : Node) → slice_get nodes.now bad.from ≡ Some n → (n.depth ≡ whole) × (bad.fault ≢ Deadlock → n.depth < steps) }
     requires safe { IsSafeUpTo (M.specification machine.now) (M.turns machine.now) (M.within machine.now) (λ A. (M.right machine.now) A ≡ true) whole }
     requires alive { HoldsBefore (M.specification machine.now) (M.turns machine.now) (M.within machine.now) (λ A. ¬ (IsDeadlock (M.specification machine.now) (M.turns machine.now) (M.rests machine.now) A)) whole }
-    requires outranked { (limit : ℕ) → bad.fault ≢ Deadlock → HoldsBefore (M.specification machine.now) (M.turns machine.now) (M.within machine.now) (IsAliveOrCrowded (M.specification machine.now) (M.turns machine.now) (IsOverLimitOf (M.made machine.now) (M.limit machine.now)) steps limit (M.right machine.now) (M.rests machine.now) (M.within machine.now)) (suc whole) }
+    requires outranked { bad.fault ≢ Deadlock → HoldsBefore (M.specification machine.now) (M.turns machine.now) (M.within machine.now) (IsAliveOrCrowded (M.specification machine.now) (M.turns machine.now) (IsOverLimitOf (M.made machine.now) (M.limit machine.now)) (M.rests machine.now)) (suc whole) }
     ensures through { (looked : ℕ) (states : List Contents) → HoldsBefore (M.specification machine.now) (M.turns machine.now) (M.within machine.now) (IsAmongFirst looked states) whole →
         IfOk result (IsLookedThrough (M.specification machine.now) (M.turns machine.now) (M.within machine.now) (IsAmongFirst looked states)) }
     ensures claims { (limit : ℕ) (states : List Contents) → IfOk result (Claims (M.specification machine.now) (M.turns machine.now) (IsOverLimitOf (M.made machine.now) (M.limit machine.now)) steps limit (M.right machine.now) (M.rests machine.now) (M.within machine.now) states) }

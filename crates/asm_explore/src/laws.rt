@@ -79,7 +79,8 @@ pub fn same_rule_result()
 {}
 
 /// A rule makes each of its choices at a path of its own, at or below that of the rule. Who chooses
-/// the same at these paths, whatever elsewhere, has the rule do the same, and make the same choices.
+/// the same at these paths, whatever elsewhere, has the rule do the same, and make the same
+/// choices.
 pub fn making_laws()
     ensures { (shape : Shape) (turns : ℕ) (chosen : Path → ℕ) (P : RuleCode) (rs : List Reading) (ls : Locations) (A : State) (p : Path) →
         MakingLaws shape turns chosen P rs ls A p }

@@ -4,7 +4,7 @@
 //! of a shortest run that goes wrong. If nothing is known ahead of a step, or one of the states
 //! that it leads to isn't right, the search lists the outcomes of the step itself
 //! (`expand_listed`). So a fault is found in one way, with the choices that lead to it.
-ghost use Rattle.std.specs.Prelude.{◌≡◌, ◌≢◌, ◌+◌, ◌^◌, ◌<◌, ◌≤◌, ℕ, suc, [], true, false, IsTrue, IfSome, IfNone, IfErr, IfOk, Some, length, slice_get, map, take, drop};
+ghost use Rattle.std.specs.Prelude.{◌≡◌, ◌≢◌, ◌+◌, ◌^◌, ◌<◌, ◌≤◌, ℕ, suc, [], true, false, IsTrue, IfSome, IfNone, IfErr, IfOk, Some, length, max, slice_get, map, take, drop};
 ghost use Rattle.asm_state.specs.code.Contents.{IsStateOf};
 ghost use Rattle.asm_state.specs.Signature.{Shape, count_of, state_of};
 ghost use Rattle.asm_meaning.specs.Yields.{Result as Yielded};
@@ -20,8 +20,8 @@ ghost use Rattle.asm_explore.specs.code.OutcomeLists.{Each, Shows, HaveChoices, 
 ghost use Rattle.asm_explore.specs.code.ChoicePaths.{HaveOwnPaths};
 ghost use Rattle.asm_explore.specs.code.ReachedStates.{AreInside, AtNode, Known, IsNear, IsGood, FollowsStep, IsLinked, IsLooked, IsOutcome, IsBadStep, IsStopped, LeadsTo, Rises, GoesWrongSo, IsOverfull, state_at};
 ghost use Rattle.asm_explore.specs.code.QuietStates.{IsFirstQuiet, IsRested};
-ghost use Rattle.asm_explore.specs.Search.{LeadsOn, IsQuiet, IsDeadlock, IsSafeUpTo, IsSafe, HoldsBefore, HoldsAlways};
-ghost use Rattle.asm_explore.specs.ExplorationResults.{IsAliveOrCrowded, IsSafeIf, beyond, known_to};
+ghost use Rattle.asm_explore.specs.Search.{LeadsOn, IsAliveOrCrowded, IsQuiet, IsDeadlock, IsSafeUpTo, IsSafe, HoldsBefore, HoldsAlways};
+ghost use Rattle.asm_explore.specs.ExplorationResults.{IsSafeIf, beyond, known_to};
 ghost use Rattle.asm_explore.specs.code.LookedStates.{LooksThrough};
 ghost use Rattle.asm_explore.specs.code.IndexedNodes.{HaveOwnStates};
 ghost use Rattle.asm_explore.specs.code.StateHashes.{hash_of_contents};
@@ -524,6 +524,7 @@ impl<'m, M: Machine> Search<'m, M> {
         requires looked { IsLooked (M.shape self.now.machine.now) (M.specification self.now.machine.now) (M.turns self.now.machine.now) (M.right self.now.machine.now) (M.within self.now.machine.now) self.now.steps 0 reached.old.nodes }
         requires rested { IsRested (M.shape self.now.machine.now) (M.specification self.now.machine.now) (M.turns self.now.machine.now) (M.rests self.now.machine.now) (M.within self.now.machine.now) self.now.steps 0 reached.old.nodes quiet.old.items }
         requires near { IsNear reached.old.nodes 0 }
+        ensures room { length reached.new.nodes ≤ self.now.limit }
         ensures rests { IsRested (M.shape self.now.machine.now) (M.specification self.now.machine.now) (M.turns self.now.machine.now) (M.rests self.now.machine.now) (M.within self.now.machine.now) self.now.steps result.expanded reached.new.nodes quiet.new.items }
         ensures stopped { IsStopped (M.shape self.now.machine.now) (M.specification self.now.machine.now) (M.turns self.now.machine.now) (IsOverLimitOf (M.made self.now.machine.now) (M.limit self.now.machine.now)) (M.right self.now.machine.now) (M.rests self.now.machine.now) (M.within self.now.machine.now) self.now.steps self.now.limit reached.new.nodes result }
     {
@@ -557,6 +558,7 @@ impl<'m, M: Machine> Search<'m, M> {
         requires looked { IsLooked (M.shape self.now.machine.now) (M.specification self.now.machine.now) (M.turns self.now.machine.now) (M.right self.now.machine.now) (M.within self.now.machine.now) self.now.steps 0 reached.nodes }
         requires rested { IsRested (M.shape self.now.machine.now) (M.specification self.now.machine.now) (M.turns self.now.machine.now) (M.rests self.now.machine.now) (M.within self.now.machine.now) self.now.steps 0 reached.nodes quiet.old.items }
         requires near { IsNear reached.nodes 0 }
+        ensures room { length result.nodes ≤ self.now.limit }
         ensures rests { IsRested (M.shape self.now.machine.now) (M.specification self.now.machine.now) (M.turns self.now.machine.now) (M.rests self.now.machine.now) (M.within self.now.machine.now) self.now.steps result.so_far.expanded result.nodes quiet.new.items }
         ensures stopped { IsStopped (M.shape self.now.machine.now) (M.specification self.now.machine.now) (M.turns self.now.machine.now) (IsOverLimitOf (M.made self.now.machine.now) (M.limit self.now.machine.now)) (M.right self.now.machine.now) (M.rests self.now.machine.now) (M.within self.now.machine.now) self.now.steps self.now.limit result.nodes result.so_far }
         ensures own { HaveOwnStates result.nodes }
@@ -627,13 +629,14 @@ pub fn explore<M: Machine, W: Watch<Progress>>(
     ensures beyond { IfOk result (λ explored. explored.whole ≤ beyond explored.safe) }
     ensures known { IfOk result (λ explored. known_to explored.safe ≤ explored.whole) }
     ensures outranked { IfOk result (λ explored. IfBad explored.ended (λ bad. bad.fault ≢ Deadlock →
-        HoldsBefore (M.specification machine.now) (M.turns machine.now) (M.within machine.now) (IsAliveOrCrowded (M.specification machine.now) (M.turns machine.now) (IsOverLimitOf (M.made machine.now) (M.limit machine.now)) steps limit (M.right machine.now) (M.rests machine.now) (M.within machine.now)) (suc explored.whole))) }
+        HoldsBefore (M.specification machine.now) (M.turns machine.now) (M.within machine.now) (IsAliveOrCrowded (M.specification machine.now) (M.turns machine.now) (IsOverLimitOf (M.made machine.now) (M.limit machine.now)) (M.rests machine.now)) (suc explored.whole))) }
     ensures wrong { IfOk result (λ explored. IfBad explored.ended (GoesWrongSo (M.specification machine.now) (M.turns machine.now) (M.right machine.now) (M.rests machine.now) (M.within machine.now) (M.shape machine.now) explored.nodes)) }
     ensures inside { IfOk result (λ explored. AreInside (M.shape machine.now) (M.specification machine.now) (M.turns machine.now) (M.within machine.now) explored.nodes) }
     ensures deep { IfOk result (λ explored. IfBad explored.ended (λ bad. (n : Node) → slice_get explored.nodes bad.from ≡ Some n → (n.depth ≡ explored.whole) × (bad.fault ≢ Deadlock → n.depth < steps))) }
     ensures nodes { IfOk result (λ explored. Each (IsGood (M.shape machine.now) (M.right machine.now)) explored.nodes × Each (IsLinked (M.shape machine.now) (M.specification machine.now) (M.turns machine.now) explored.nodes) explored.nodes) }
     ensures crowded { IfOk result (λ explored. IfOverLimit explored.ended (λ crowd. (number : ℕ) × AtNode (M.shape machine.now) (IsOverLimitOf (M.made machine.now) (M.limit machine.now)) explored.nodes number explored.whole crowd)) }
     ensures own { IfOk result (λ explored. HaveOwnStates explored.nodes) }
+    ensures room { IfOk result (λ explored. length explored.nodes ≤ max limit 1) }
     ensures full { IfOk result (λ explored. explored.ended ≡ TooManyStates →
         IsOverfull (M.shape machine.now) (M.specification machine.now) (M.turns machine.now) (M.right machine.now) (M.within machine.now) limit explored.whole explored.nodes) }
     ensures near { IfOk result (λ explored. explored.ended ≡ TooManyStates → Each (λ n. n.depth ≤ explored.whole + 1) explored.nodes) }

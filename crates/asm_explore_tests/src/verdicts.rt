@@ -1,5 +1,4 @@
-//! What is found of whole specifications. That no state is listed twice shows in their counts
-//! alone.
+//! What is found of whole specifications.
 use crate::question::{ANY, Asked, Case, first_other};
 use crate::texts::agreement::{COMMIT, ELECTION};
 use crate::texts::alternating::{ALTERNATING, ALTERNATING_WRONG};

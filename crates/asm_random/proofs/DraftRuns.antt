@@ -11,10 +11,11 @@ use Rattle.asm_state.specs.Location.{State}
 use Rattle.asm_reader.specs.code.ExactLines.{exactly}
 use Rattle.asm_reader.specs.ScriptLines.{exact_choice, pick}
 use Rattle.asm_meaning.specs.Run.{Run, Specification, run}
+use Rattle.asm_explore.specs.Search.{IsAliveOrCrowded}
 use Rattle.asm_random.specs.declared.draft.Draft.{Draft}
 use Rattle.asm_random.specs.Drafts.{draft_lines, lines_from}
 use Rattle.asm_explore.specs.declared.outcomes.outcomes_error.RuleOverLimit.{RuleOverLimit}
-use Rattle.asm_random.specs.FineRuns.{AreFine, IsAliveOrCrowded, IsFineRun, MadeRun}
+use Rattle.asm_random.specs.FineRuns.{AreFine, IsFineRun, MadeRun}
 use Rattle.asm_random.specs.code.DraftSteps.{AddsStep}
 use Rattle.asm_random.proofs.DraftLines.{picked_pushed}
 use Rattle.asm_random.proofs.RunsSoFar.{IsFineTo}

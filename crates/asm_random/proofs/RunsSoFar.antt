@@ -13,9 +13,9 @@ use Rattle.asm_meaning.specs.Run.{Specification, run}
 use Rattle.asm_explore.specs.declared.fault.Fault.{Fault}
 use Rattle.asm_explore.specs.declared.fault.Fault.TheVariants as fault
 use Rattle.asm_explore.specs.declared.outcomes.outcomes_error.RuleOverLimit.{RuleOverLimit}
-use Rattle.asm_explore.specs.Search.{IsDeadlock, steps_to}
+use Rattle.asm_explore.specs.Search.{IsAliveOrCrowded, IsDeadlock, steps_to}
 use Rattle.asm_random.specs.BadDrafts.{IsWrongUnder}
-use Rattle.asm_random.specs.FineRuns.{IsAliveOrCrowded, IsFineRun, MayEnd}
+use Rattle.asm_random.specs.FineRuns.{IsFineRun, MayEnd}
 use Rattle.asm_random.specs.code.Replay.{GoesWrong, IsAfter, IsStep}
 use Rattle.asm_random.proofs.Endings.{after_more, goes_wrong}
 use Rattle.asm_random.proofs.QuietSteps.{exhausted_changes, inconsistent_changes, wrong_changes}

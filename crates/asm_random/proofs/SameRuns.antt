@@ -13,10 +13,9 @@ use Rattle.asm_meaning.specs.Value.{nesting}
 use Rattle.asm_meaning.specs.Yields.{Result, Gives, Exhausted}
 use Rattle.asm_explore.specs.declared.fault.Fault.{Fault}
 use Rattle.asm_explore.specs.declared.fault.Fault.TheVariants as fault
-use Rattle.asm_explore.specs.Search.{EndsSo, IsDeadlock, steps_to}
+use Rattle.asm_explore.specs.Search.{IsAliveOrCrowded, EndsSo, IsDeadlock, steps_to}
 use Rattle.asm_explore.specs.declared.outcomes.outcomes_error.RuleOverLimit.{RuleOverLimit}
 use Rattle.asm_random.specs.BadDrafts.{IsWrongUnder}
-use Rattle.asm_random.specs.FineRuns.{IsAliveOrCrowded}
 
 module _ (specification : Specification) (turns : ℕ) where
   abbrev run_by : Script → ℕ → ℕ → State → Run

@@ -9,8 +9,7 @@ use Rattle.asm_reader.specs.ScriptLines.{Script}
 use Rattle.asm_meaning.specs.Run.{Specification, run}
 use Rattle.asm_explore.specs.declared.fault.Fault.{Fault}
 use Rattle.asm_explore.specs.declared.outcomes.outcomes_error.RuleOverLimit.{RuleOverLimit}
-use Rattle.asm_explore.specs.Search.{GoesWrongIn, steps_to}
-use Rattle.asm_random.specs.FineRuns.{IsAliveOrCrowded}
+use Rattle.asm_explore.specs.Search.{IsAliveOrCrowded, GoesWrongIn, steps_to}
 
 module _ (specification : Specification) (turns : ℕ) (crowds : State → RuleOverLimit → Type 0) (steps : ℕ) (right rests : State → Bool) where
   pub record IsWrongUnder (script : Script) (step : ℕ) (f : Fault) : Type 0 where

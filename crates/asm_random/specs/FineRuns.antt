@@ -1,5 +1,4 @@
 -- Definition. Runs that are fine.
---     IsAliveOrCrowded A  the state is no deadlock, or its step has too many outcomes to tell
 --     MayEnd A            a run may end in the state before its last step: it is quiet, and no
 --                         deadlock, if this can be told
 --     MadeRun             a script, and how many steps are made under it
@@ -15,7 +14,7 @@ use Rattle.std.specs.List.{AllByRecursion}
 use Rattle.asm_state.specs.Location.{State}
 use Rattle.asm_reader.specs.ScriptLines.{Script}
 use Rattle.asm_meaning.specs.Run.{AtLimit, Specification, run}
-use Rattle.asm_explore.specs.Search.{IsDeadlock, IsQuiet}
+use Rattle.asm_explore.specs.Search.{IsAliveOrCrowded, IsQuiet}
 use Rattle.asm_explore.specs.declared.outcomes.outcomes_error.RuleOverLimit.{RuleOverLimit}
 
 pub record MadeRun : Type 0 where
@@ -27,11 +26,8 @@ steps_of [] = 0
 steps_of (one ∷ others) = one.steps + steps_of others
 
 module _ (specification : Specification) (turns : ℕ) (crowds : State → RuleOverLimit → Type 0) (rests : State → Bool) where
-  abbrev pub IsAliveOrCrowded : State → Type 0
-  IsAliveOrCrowded A = ¬ (IsDeadlock specification turns rests A) ⊎ ((crowd : RuleOverLimit) × crowds A crowd)
-
   abbrev pub MayEnd : State → Type 0
-  MayEnd A = IsQuiet specification turns A × IsAliveOrCrowded A
+  MayEnd A = IsQuiet specification turns A × IsAliveOrCrowded specification turns crowds rests A
 
 module _ (specification : Specification) (turns : ℕ) (crowds : State → RuleOverLimit → Type 0) (steps : ℕ) (right rests : State → Bool) where
   pub record IsFineRun (made : MadeRun) : Type 0 where

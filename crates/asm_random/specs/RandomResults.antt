@@ -6,10 +6,10 @@
 --                           makes are too long for a script
 --     Claims                what each finding says of the run that goes wrong, if there is one
 --     IsLast                the run with this number is the last one that was made, of as many as
---                           are asked for, and the runs before it are fine. As it was drawn, under a
---                           script, it goes wrong in its last step: the steps up to this one are
---                           counted. A fault that is shown comes in no later step, and is a deadlock
---                           if it was one then, and else is none
+--                           are asked for, and the runs before it are fine. Under a script, which is
+--                           that of its draft, it goes wrong in its last step: the steps up to this
+--                           one are counted. A fault that is shown comes in no later step, and is a
+--                           deadlock if that one is, and else is none
 --     Counts                how many runs and steps were made: without a bad run as many runs as
 --                           are asked for, all of which are fine
 use Rattle.std.specs.Prelude.{◌≡◌, ◌↔◌, ◌+◌, ◌≤◌, ℕ, suc, Bool, false, List}

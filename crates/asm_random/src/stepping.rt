@@ -125,8 +125,8 @@ fn began_in_deadlock(
     is_deadlock(alloc, specified, &at.state)
 }
 
-/// Where the step leads, if it isn't faulty, the state is right, and the one in which the step began
-/// isn't seen to be a deadlock.
+/// Where the step leads, if it isn't faulty, the state is right, and the one in which the step
+/// began isn't seen to be a deadlock.
 pub(crate) fn step_from<P: Picks>(
     alloc: Global,
     specified: &ResolvedQuestion<'_>,

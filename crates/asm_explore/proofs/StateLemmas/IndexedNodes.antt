@@ -1,21 +1,24 @@
 -- Free. An index of nodes by the hashes of their states.
 --     hash_push, hash_more     the hash of one more content
 --     kept_stands, new_stands  what stands in the slots after one more is noted
+--     filled                   slots that are free
+--     none_taken               of free slots none is taken
 --     indexed_none, indexed_more    no node, and one more
 --     taken_push               the first nodes and the next one
 --     found_stands             where a node stands that has a state
 --     stands_taken             the search for a node's hash comes to no free slot before it
-use Rattle.std.proofs.Common.{◌≡◌, ◌≢◌, ℕ, zero, suc, ◌+◌, ◌<◌, ◌≤◌, List, [], ◌∷◌, ◌++◌, ◌⊎◌, length, get_or, set, take, inl, inr, refl, sym, ap, subst, ◌∙◌, arith}
+use Rattle.std.proofs.Common.{◌≡◌, ◌≢◌, ℕ, zero, suc, ◌+◌, ◌-◌, ◌<◌, ◌≤◌, List, [], ◌∷◌, ◌++◌, ◌⊎◌, length, get_or, replicate, set, take, inl, inr, refl, sym, ap, subst, ◌∙◌, arith}
 use Rattle.std.specs.Prelude.{slice_get, Some}
 use Rattle.std.proofs.lemmas.Bool.{cases_lt, cases_eq}
-use Rattle.std.proofs.lemmas.List.{length-set, get_or-set_same, get_or-set_other, take_more}
+use Rattle.std.proofs.lemmas.List.{length-append, length-set, take_all, get_or-set_same, get_or-set_other, take_more}
 use Rattle.std.proofs.lemmas.Option.{get_or_from_slice_get, slice_get_within}
 use Rattle.asm_state.specs.code.Codes.{code_of}
 use Rattle.asm_state.specs.declared.value.Value.{Value}
-use Rattle.asm_explore.specs.code.IndexedNodes.{IsFreeFor, IsIndexed, IsTakenUpTo, StandsAt, slot_of, tag_at, tag_of_hash}
+use Rattle.asm_explore.specs.code.IndexedNodes.{IsFreeFor, IsIndexed, IsTakenUpTo, StandsAt, slot_of, tag_at, tag_of_hash, taken_slots}
 use Rattle.asm_explore.specs.code.PackedNodes.{Node}
 use Rattle.asm_explore.specs.code.StateHashes.{hash_from, hash_of_contents, next_hash}
 use Rattle.asm_explore.proofs.StateLemmas.MoreNodes.{slice_split}
+use Rattle.asm_explore.proofs.StateLemmas.FreeSlots.{taken_more}
 
 pub hash_push : (hash : ℕ) (vs : List Value) (v : Value) → hash_from hash (vs ++ v ∷ []) ≡ next_hash (hash_from hash vs) (code_of v)
 hash_push hash [] v = refl
@@ -65,8 +68,22 @@ new_stands slots tags hash at number free same =
       slot = ap (λ k. get_or (set slots at (number + 1)) k 0) is ∙ get_or-set_same slots at (number + 1) 0 (omega (arith, free.within, same));
     }
 
-pub indexed_none : (slots tags : List ℕ) → length slots ≡ length tags → IsIndexed [] slots tags
-indexed_none slots tags same = record { same = same; stands = λ number n there. absurd (omega (arith, slice_get_within [] number n there)) }
+pub filled : (old new : List ℕ) (count places : ℕ) → old ≡ [] → count ≡ 0 → new ≡ take places old ++ replicate (places - count) 0 → new ≡ replicate places 0
+filled old new count places none zero_count is =
+    let first : take places old ≡ [] = ap (take places) none ∙ take_all places [] (omega arith) in
+    let many : places - count ≡ places = omega (arith, zero_count) in
+    is ∙ (ap (λ xs. xs ++ replicate (places - count) 0) first ∙ ap (λ n. replicate n 0) many)
+
+pub none_taken : (places : ℕ) → taken_slots (replicate places 0) ≡ 0
+none_taken zero = refl
+none_taken (suc places) = none_taken places
+
+pub indexed_none : (slots tags : List ℕ) (places : ℕ) → slots ≡ replicate places 0 → tags ≡ replicate places 0 → IsIndexed [] slots tags
+indexed_none slots tags places free_slots free_tags = record {
+  same = ap length (free_slots ∙ sym free_tags);
+  few = omega (arith, ap taken_slots free_tags, none_taken places);
+  stands = λ number n there. absurd (omega (arith, slice_get_within [] number n there));
+}
 
 pub taken_push : (nodes : List Node) (k : ℕ) (n : Node) → slice_get nodes k ≡ Some n → take k nodes ++ n ∷ [] ≡ take (k + 1) nodes
 taken_push nodes k n there =
@@ -82,6 +99,7 @@ pub indexed_more : (nodes : List Node) (n : Node) (slots tags : List ℕ) (hash 
     → IsIndexed nodes slots tags → IsIndexed (nodes ++ n ∷ []) (set slots at (number + 1)) (set tags at (tag_of_hash hash))
 indexed_more nodes n slots tags hash at number free count is indexed = record {
   same = length-set slots at (number + 1) ∙ (indexed.same ∙ sym (length-set tags at (tag_of_hash hash)));
+  few = omega (arith, indexed.few, taken_more tags at (tag_of_hash hash) free.within free.free (tag_positive hash), length-append nodes (n ∷ []));
   stands = λ k m there. by_place k m (slice_split nodes (n ∷ []) k m there);
 }
   where

@@ -13,7 +13,7 @@ use Rattle.std.proofs.lemmas.Option.{slice_get_within}
 use Rattle.asm_state.specs.Location.{State}
 use Rattle.asm_state.specs.Signature.{Shape}
 use Rattle.asm_meaning.specs.Run.{Specification}
-use Rattle.asm_explore.specs.ExplorationResults.{IsAliveOrCrowded, IsSafeIf, beyond}
+use Rattle.asm_explore.specs.ExplorationResults.{IsSafeIf, beyond}
 use Rattle.asm_explore.specs.declared.fault.Fault.{Fault}
 use Rattle.asm_explore.specs.declared.fault.Fault.TheVariants as fault
 use Rattle.asm_explore.specs.declared.outcomes.outcomes_error.RuleOverLimit.{RuleOverLimit}
@@ -31,7 +31,7 @@ use Rattle.asm_explore.specs.code.QuietStates.{IsRested}
 use Rattle.asm_explore.specs.code.ReachedStates.{AtNode, GoesWrong, GoesWrongSo, IsBad, IsLooked, IsSearched, state_at, steps_from}
 use Rattle.asm_explore.specs.code.SearchEnds.{IfBad, IfOverLimit}
 use Rattle.asm_explore.specs.code.SettledEnds.{IsSettled}
-use Rattle.asm_explore.specs.Search.{HoldsBefore, IsDeadlock, IsSafeUpTo, steps_to}
+use Rattle.asm_explore.specs.Search.{IsAliveOrCrowded, HoldsBefore, IsDeadlock, IsSafeUpTo, steps_to}
 use Rattle.asm_explore.proofs.StateLemmas.Batches.{same_node, shallow_at}
 use Rattle.asm_explore.proofs.StateLemmas.MoreNodes.{each_got, holds_before, holds_with, looked_whole, search_covers}
 use Rattle.asm_explore.proofs.StateLemmas.QuietNodes.{alive_whole, each_got_of}
@@ -102,7 +102,7 @@ module _ (specification : Specification) (turns : ℕ) (crowds : State → RuleO
   IsAlive A = ¬ (IsDeadlock specification turns rests A)
 
   abbrev MayBeAlive : State → Type 0
-  MayBeAlive = IsAliveOrCrowded specification turns crowds steps limit right rests within
+  MayBeAlive = IsAliveOrCrowded specification turns crowds rests
 
   -- from where the nodes are looked through
   abbrev pub BeginsAt : (first i whole : ℕ) → Type 0
@@ -213,7 +213,7 @@ module _ (specification : Specification) (turns : ℕ) (crowds : State → RuleO
         (safe_told whole d (search_covers shape specification turns right within whole nodes searched) alive_before
         (λ none. none_dead first i whole quiet low begins rest rested searched (subst (AreKnown specification turns crowds rests within shape nodes first whole) none known)))
 
-    pub ends_outranked : IfBad end.ended (λ bad. bad.fault ≢ fault.Deadlock → HoldsBefore specification turns within (IsAliveOrCrowded specification turns crowds steps limit right rests within) (suc whole))
+    pub ends_outranked : IfBad end.ended (λ bad. bad.fault ≢ fault.Deadlock → HoldsBefore specification turns within (IsAliveOrCrowded specification turns crowds rests) (suc whole))
     ends_outranked = if_bad_weaker (IsSettledSo was d) (λ bad. bad.fault ≢ fault.Deadlock → HoldsBefore specification turns within MayBeAlive (suc whole)) end.ended by_end settled.bad
       where
         by_end : (bad : BadStep) → IsSettledSo was d bad → bad.fault ≢ fault.Deadlock → HoldsBefore specification turns within MayBeAlive (suc whole)

@@ -7,12 +7,14 @@
 --     IsTakenUpTo tags hash steps        none of the slots is free that the search for a hash comes
 --                                        to in fewer steps
 --     StandsAt slots tags hash number steps    the search for a hash comes to this node so
---     IsIndexed nodes slots tags         it comes to each node by the hash of its state
+--     taken_slots tags                   how many slots aren't free
+--     IsIndexed nodes slots tags         it comes to each node by the hash of its state, and no more
+--                                        slots are taken than there are nodes
 --     IsFreeFor tags hash at             the search for a hash comes to this slot first of all that
 --                                        are free
 --     IsNew nodes state                  no node has this state
 --     HaveOwnStates nodes                no two nodes have the same state
-use Rattle.std.specs.Prelude.{◌≡◌, ◌≢◌, ◌<◌, ◌+◌, ◌/◌, ◌%◌, ◌^◌, ℕ, zero, suc, List, length, cond, nat_lt, bit_xor, slice_get, slice_index_or, Some}
+use Rattle.std.specs.Prelude.{◌≡◌, ◌≢◌, ◌<◌, ◌≤◌, ◌+◌, ◌/◌, ◌%◌, ◌^◌, ℕ, zero, suc, List, [], ◌∷◌, length, cond, nat_lt, bit_xor, slice_get, slice_index_or, Some}
 use Rattle.asm_state.specs.declared.value.Value.{Value}
 use Rattle.asm_explore.specs.code.PackedNodes.{Node}
 use Rattle.asm_explore.specs.code.StateHashes.{hash_of_contents}
@@ -46,8 +48,14 @@ pub record StandsAt (slots tags : List ℕ) (hash number steps : ℕ) : Type 0 w
   pub tag : tag_at tags (slot_of hash (length tags) steps) ≡ tag_of_hash hash
   pub slot : slice_index_or slots (slot_of hash (length tags) steps) 0 ≡ number + 1
 
+abbrev pub taken_slots : (tags : List ℕ) → ℕ
+taken_slots [] = 0
+taken_slots (zero ∷ tags) = taken_slots tags
+taken_slots (suc tag ∷ tags) = suc (taken_slots tags)
+
 pub record IsIndexed (nodes : List Node) (slots tags : List ℕ) : Type 0 where
   pub same : length slots ≡ length tags
+  pub few : taken_slots tags ≤ length nodes
   pub stands : (number : ℕ) (n : Node) → slice_get nodes number ≡ Some n
       → (steps : ℕ) × StandsAt slots tags (hash_of_contents n.state) number steps
 

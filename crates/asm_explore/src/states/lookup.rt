@@ -1,6 +1,6 @@
 //! States are looked up among nodes by an index.
-ghost use Rattle.std.specs.Prelude.{◌≡◌, ◌≢◌, ◌+◌, ◌<◌, ℕ, List, [], ◌∷◌, ◌++◌, false, IsTrue, IfNone, IfOk, IfSome, OnOk, OnErr, Some, length, slice_get};
-ghost use Rattle.asm_explore.specs.code.IndexedNodes.{IsFreeFor, IsIndexed, IsNew, IsTakenUpTo};
+ghost use Rattle.std.specs.Prelude.{◌≡◌, ◌≢◌, ◌+◌, ◌*◌, ◌<◌, ◌≤◌, ℕ, List, [], ◌∷◌, ◌++◌, false, IsTrue, IfOk, OnOk, OnErr, Some, length, slice_get};
+ghost use Rattle.asm_explore.specs.code.IndexedNodes.{IsFreeFor, IsIndexed, IsNew, taken_slots};
 ghost use Rattle.asm_explore.specs.code.StateHashes.{hash_of_contents};
 ghost use Rattle.asm_explore.specs.code.PackedNodes.{Node};
 ghost use Rattle.asm_explore.specs.code.OutcomeLists.{Each, AnyOf};
@@ -129,23 +129,20 @@ pub(crate) fn is_there(
     false
 }
 
-/// The slot that the search for a hash comes to first of all that are free. An index has more slots
-/// than nodes, so there is one.
-fn free_slot(hash: u64, tags: &[u8]) -> Option<usize>
-    ensures some { IfSome result (IsFreeFor tags.now hash) }
-    ensures none { IfNone result (IsTakenUpTo tags.now hash (length tags.now)) }
+/// The slot that the search for a hash comes to first of all that are free. Not all are taken, so
+/// it comes to one before it is round.
+fn free_slot(hash: u64, tags: &[u8]) -> usize
+    requires { taken_slots tags.now < length tags.now }
+    ensures { IsFreeFor tags.now hash result }
 {
-    if tags.len() == 0 {
-        return None;
-    }
     let mut at = first_slot(hash, tags.len());
     for taken in 0..tags.len() {
         if tags[at] == 0 {
-            return Some(at);
+            return at;
         }
         at = next_slot(at, tags.len());
     }
-    None
+    at
 }
 
 /// Notes in a free slot that a node is there, whose state has this hash.
@@ -156,22 +153,27 @@ fn note(hash: u64, number: usize, at: usize, slots: &mut Vec<u32>, tags: &mut Ve
     ensures indexed { (nodes : List Node) (n : Node) → length nodes ≡ number → hash ≡ hash_of_contents n.state →
         IsIndexed nodes slots.old.items tags.old.items → IsIndexed (nodes ++ n ∷ []) slots.new.items tags.new.items }
     ensures same { length slots.new.items ≡ length tags.new.items }
+    ensures places { length tags.new.items ≡ length tags.old.items }
 {
     tags[at] = tag_of(hash);
     slots[at] = number as u32 + 1;
 }
 
-/// The slots and tags of an index of all nodes, with this many slots.
+/// The slots and tags of an index of all nodes, with this many slots, which are not many times as
+/// many.
 fn index_of(alloc: Global, nodes: &Nodes, places: usize) -> Result<(Vec<u32>, Vec<u8>), AllocError>
     requires few { length nodes.now < 4_294_967_296 }
-    ensures { IfOk result (λ made. IsIndexed nodes.now made.0.items made.1.items) }
+    requires room { length nodes.now < places }
+    requires small { places ≤ 3 * length nodes.now + 16 }
+    ensures indexed { IfOk result (λ made. IsIndexed nodes.now made.0.items made.1.items) }
+    ensures places { IfOk result (λ made. length made.1.items ≡ places) }
 {
     let (mut slots, mut tags) = (Vec::new(alloc), Vec::new(alloc));
     slots.resize(places, 0u32)?;
     tags.resize(places, 0u8)?;
     for number in 0..nodes.len() {
         let hash = nodes.hash(number);
-        let at = free_slot(hash, tags.as_slice()).ok_or(AllocError)?;
+        let at = free_slot(hash, tags.as_slice());
         note(hash, number, at, &mut slots, &mut tags);
     }
     Ok((slots, tags))
@@ -181,7 +183,8 @@ fn index_of(alloc: Global, nodes: &Nodes, places: usize) -> Result<(Vec<u32>, Ve
 fn make_room(alloc: Global, nodes: &Nodes, index: &mut Index) -> Result<(), AllocError>
     requires few { length nodes.now < 4_294_967_296 }
     requires indexed { IsIndexed nodes.now index.old.slots.items index.old.tags.items }
-    ensures { IsIndexed nodes.now index.new.slots.items index.new.tags.items }
+    ensures indexed { IsIndexed nodes.now index.new.slots.items index.new.tags.items }
+    ensures room { OnOk result (length nodes.now < length index.new.tags.items) }
 {
     let next = nodes.len().saturating_add(1);
     let wanted = next.saturating_add(next / 3);
@@ -213,7 +216,7 @@ pub(crate) fn add_node(
     ensures err { OnErr result (nodes.new ≡ nodes.old) }
 {
     make_room(alloc, nodes, index)?;
-    let at = free_slot(hash, index.tags.as_slice()).ok_or(AllocError)?;
+    let at = free_slot(hash, index.tags.as_slice());
     let number = nodes.len();
     nodes.push(state, link.count, link.from, link.depth)?;
     note(hash, number, at, &mut index.slots, &mut index.tags);

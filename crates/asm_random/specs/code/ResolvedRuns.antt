@@ -12,12 +12,11 @@ use Rattle.asm_syntax.specs.code.Views.{spec_of}
 use Rattle.asm_check.specs.Shapes.{shape_of}
 use Rattle.asm_meaning.specs.Declarations.{specification_of}
 use Rattle.asm_meaning.specs.Run.{Specification}
-use Rattle.asm_explore.specs.Search.{IsDeadlock}
+use Rattle.asm_explore.specs.Search.{IsAliveOrCrowded, IsDeadlock}
 use Rattle.asm_explore.specs.code.MainRule.{IsMainOverLimit}
 use Rattle.asm_explore.specs.code.ResolvedConditions.{IsSpecified, holds_in}
 use Rattle.asm_explore.specs.declared.outcomes.outcomes_error.RuleOverLimit.{RuleOverLimit}
 use Rattle.asm_explore.specs.declared.resolved_question.ResolvedQuestion.{ResolvedQuestion}
-use Rattle.asm_random.specs.FineRuns.{IsAliveOrCrowded}
 
 module _ (m : ResolvedQuestion) where
   abbrev pub shape_in : Shape

@@ -77,7 +77,7 @@ returns-in-Some-clause-claims g c = λ limit states.
         next = omega (arith, c.from.ensures);
         fine = c.requires.safe;
         alive = c.requires.alive;
-        outranked = c.requires.outranked limit;
+        outranked = c.requires.outranked;
       };
     }
 
@@ -120,7 +120,7 @@ returns-clause-claims g c = λ limit states.
         next = omega (arith, c.from.ensures);
         fine = c.requires.safe;
         alive = c.requires.alive;
-        outranked = c.requires.outranked limit;
+        outranked = c.requires.outranked;
       };
     }
 

@@ -1,4 +1,4 @@
-use Rattle.std.proofs.Common.{◌≡◌, ◌≤◌, ◌+◌, ◌∙◌, ℕ, suc, [], ◌∷◌, refl, map, take, length, true, ap, sym, subst, arith, Vec, Global}
+use Rattle.std.proofs.Common.{◌≡◌, ◌≤◌, ◌+◌, ◌∙◌, ℕ, suc, [], ◌∷◌, refl, map, max, take, length, true, ap, sym, subst, arith, Vec, Global}
 use Rattle.std.specs.Prelude.{◌<◌, IfSome, None, Option, Some}
 use Rattle.std.proofs.lemmas.List.{length-map}
 use Rattle.asm_state.specs.code.Contents.{IsStateOf}
@@ -22,6 +22,7 @@ returns-then-not-is_right g c = record {
   reached = [];
   different = λ i j less low. absurd (omega (arith, less, low));
   count = refl;
+  room = omega arith;
   reach = tt;
   found = ap (g.M.Machine.right c.args.machine.now) (sym c.requires.initial) ∙ (sym c.is_right.ensures ∙ c.if-not-is_right.true);
   looked = 0;
@@ -61,6 +62,7 @@ returns g c =
       reached = states;
       different = states_different shape nodes kept explored.own;
       count = length-map nodes (state_at shape) ∙ sym c.len.ensures;
+      room = subst (λ n. n ≤ max a.limit 1) (sym c.len.ensures) explored.room;
       reach = nodes_reached shape specification turns within nodes explored.nodes.1 explored.inside c.greatest_depth.result
           (λ i n there. each_got (λ n. n.depth ≤ c.greatest_depth.result) nodes i n c.greatest_depth.ensures there);
       found = elim c.match-ended.branch [
