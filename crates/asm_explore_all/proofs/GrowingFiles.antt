@@ -1,12 +1,12 @@
 -- Free. What becomes of the files that are known to be made.
 --     makes_none      nothing is made
 --     makes_both      some files, and then others
---     begins_none     none of some files is made
---     begins_all      all of them are
---     begins_more     some of them are, of more files
---     begins_after    all of some files are made, and then others are begun
-use Rattle.std.proofs.Common.{◌∙◌, ◌++◌, [], ◌∷◌, List, Option, None, Some, inl, inr, refl, ap, append_assoc, append-nil, sym}
-use Rattle.asm_explore_all.specs.MadeFiles.{AreBegun, Begins, MadeFile, Makes}
+--     first_all       all of some files are the first of them
+--     stops_more      a file can't be made, of some that others follow
+--     stops_after     all of some files are made, and then one can't be
+use Rattle.std.proofs.Common.{◌∙◌, ◌++◌, [], ◌∷◌, ℕ, List, Option, None, Some, inl, inr, ap, append_assoc, append-nil, arith, length, subst, sym}
+use Rattle.std.proofs.lemmas.List.{take_all}
+use Rattle.asm_explore_all.specs.MadeFiles.{MadeFile, Makes, MakesFirst, StopsAt}
 
 pub makes_none : (known : Option (List MadeFile)) → Makes known known []
 makes_none None = tt
@@ -18,31 +18,30 @@ makes_both (Some a) None new first second p q = absurd p
 makes_both (Some a) (Some b) None first second p q = absurd q
 makes_both (Some a) (Some b) (Some c) first second p q = q ∙ (ap (λ files. files ++ second) p ∙ append_assoc a first second)
 
--- ---- files that are begun
+pub first_all : (old new : Option (List MadeFile)) (files : List MadeFile) → Makes old new files → MakesFirst old new files
+first_all old new files makes = (length files, subst (Makes old new) (sym (take_all (length files) files (omega arith))) makes)
 
-all_begun : (files : List MadeFile) → AreBegun files files
-all_begun [] = tt
-all_begun (file ∷ files) = inl (refl, all_begun files)
+pub stops_more : (old new : Option (List MadeFile)) (name : List ℕ) (files more : List MadeFile) → StopsAt old new name files → StopsAt old new name (files ++ more)
+stops_more old new name files more s = record {
+  before = s.before;
+  file = s.file;
+  others = s.others ++ more;
+  split = ap (λ fs. fs ++ more) s.split ∙ append_assoc s.before (s.file ∷ s.others) more;
+  named = s.named;
+  made = s.made;
+}
 
-begun_of_more : (made files more : List MadeFile) → AreBegun made files → AreBegun made (files ++ more)
-begun_of_more [] files more are = tt
-begun_of_more (one ∷ made) [] more are = absurd are
-begun_of_more (one ∷ made) (file ∷ files) more (inl (same, are)) = inl (same, begun_of_more made files more are)
-begun_of_more (one ∷ made) (file ∷ files) more (inr cut) = inr cut
-
-begun_behind : (first made files : List MadeFile) → AreBegun made files → AreBegun (first ++ made) (first ++ files)
-begun_behind [] made files are = are
-begun_behind (file ∷ first) made files are = inl (refl, begun_behind first made files are)
-
-pub begins_none : (known : Option (List MadeFile)) (files : List MadeFile) → Begins known known files
-begins_none known files = ([], makes_none known, tt)
-
-pub begins_all : (old new : Option (List MadeFile)) (files : List MadeFile) → Makes old new files → Begins old new files
-begins_all old new files makes = (files, makes, all_begun files)
-
-pub begins_more : (old new : Option (List MadeFile)) (files more : List MadeFile) → Begins old new files → Begins old new (files ++ more)
-begins_more old new files more begins = (begins.0, begins.1, begun_of_more begins.0 files more begins.2)
-
-pub begins_after : (old mid new : Option (List MadeFile)) (first second : List MadeFile) → Makes old mid first → Begins mid new second → Begins old new (first ++ second)
-begins_after old mid new first second makes begins =
-    (first ++ begins.0, makes_both old mid new first begins.0 makes begins.1, begun_behind first begins.0 second begins.2)
+pub stops_after : (old mid new : Option (List MadeFile)) (name : List ℕ) (first second : List MadeFile) → Makes old mid first → StopsAt mid new name second
+    → StopsAt old new name (first ++ second)
+stops_after old mid new name first second makes s = record {
+  before = first ++ s.before;
+  file = s.file;
+  others = s.others;
+  split = ap (λ fs. first ++ fs) s.split ∙ sym (append_assoc first s.before (s.file ∷ s.others));
+  named = s.named;
+  made =
+      elim s.made [
+        | inl made ↦ inl (makes_both old mid new first s.before makes made)
+        | inr cut ↦ inr (cut.0, cut.1, subst (Makes old new) (sym (append_assoc first s.before (cut.0 ∷ []))) (makes_both old mid new first (s.before ++ cut.0 ∷ []) makes cut.2))
+      ];
+}

@@ -1,4 +1,4 @@
--- Definition. The lines behind the first of a report of all runs.
+-- Definition. The lines behind the first of a report of all runs, and the files beside it.
 --     condition_lines conditions      the conditions
 --     all_looked_for conditions       which faults are looked for
 --     count_lines file answer         states, steps, depth, the widest step, and quiet states, with
@@ -12,7 +12,10 @@
 --     IsDrawn asked file lines made   if a graph is asked for by the name of a file, this file is
 --                                     made and has its text, and nothing is said; or it has more
 --                                     than 2,000 states, which is said, and no file is made
---     IsBegun asked file old new      if that fails: no file is made, or this one may be cut
+--     ExplainsDrawing asked file old new fault
+--                                     why the graph isn't drawn: memory ran out, and no file is made;
+--                                     or this file can't be written
+--     ExplainsScript file run old new fault    why a script isn't written to this file: it can't be
 --     AreFacts                        all of them, in order
 use Rattle.std.specs.Prelude.{◌≡◌, ◌⊎◌, ℕ, List, [], ◌∷◌, ◌++◌, length, Option, Some, None, option_map, codes, decimal}
 use Rattle.std.specs.String.{string_bytes}
@@ -33,11 +36,13 @@ use Rattle.asm_graph.specs.declared.graph.Graph.{Graph}
 use Rattle.asm_explore_texts.specs.Conditions.{text_of, texts_of}
 use Rattle.asm_explore_texts.specs.Positions.{MayBePosition}
 use Rattle.asm_explore_texts.specs.declared.conditions.Conditions.{Conditions}
+use Rattle.asm_explore_words.specs.declared.fault.Fault.{Fault}
+use Rattle.asm_explore_words.specs.declared.fault.Fault.TheVariants as fault
 use Rattle.asm_explore_words.specs.declared.settings.Settings.{Settings}
 use Rattle.asm_explore_report.specs.Commands.{command, file_word}
 use Rattle.asm_explore_report.specs.Facts.{always_lines, condition_line, deadlock_words, looked_for}
 use Rattle.asm_explore_report.specs.ShownRuns.{Shown, first_state, shown_bad}
-use Rattle.asm_explore_all.specs.MadeFiles.{Begins, MadeFile, Makes}
+use Rattle.asm_explore_all.specs.MadeFiles.{MadeFile, Makes, StopsAt}
 use Rattle.asm_explore_all.specs.declared.checked_question.CheckedQuestion.{CheckedQuestion}
 
 -- ---- conditions
@@ -138,8 +143,20 @@ module _ (asked : CheckedQuestion) where
   IsDrawn (Some name) lines made =
       ((text : List ℕ) × IsGraphText text × (lines ≡ []) × (made ≡ (name, text) ∷ [])) ⊎ (HasTooMany × (lines ≡ graph_note ∷ []) × (made ≡ []))
 
-  abbrev pub IsBegun : (file : Option (List ℕ)) → (old new : Option (List MadeFile)) → Type 0
-  IsBegun file old new = Makes old new [] ⊎ ((lines : List (List ℕ)) × (made : List MadeFile) × IsDrawn file lines made × Begins old new made)
+  abbrev pub ExplainsDrawing : (file : Option (List ℕ)) → (old new : Option (List MadeFile)) → Fault → Type 0
+  ExplainsDrawing file old new fault.Memory = Makes old new []
+  ExplainsDrawing file old new (fault.Graph name) =
+      (file ≡ Some name.now) × ((lines : List (List ℕ)) × (drawn : List MadeFile) × IsDrawn file lines drawn × StopsAt old new name.now drawn)
+  ExplainsDrawing file old new (fault.Text refused) = ⊥
+  ExplainsDrawing file old new (fault.QuietScript name) = ⊥
+  ExplainsDrawing file old new fault.Unconfirmed = ⊥
+
+abbrev pub ExplainsScript : (file : Option (List ℕ)) → Option QuietRun → (old new : Option (List MadeFile)) → Fault → Type 0
+ExplainsScript file run old new (fault.QuietScript name) = (file ≡ Some name.now) × StopsAt old new name.now (quiet_files file run)
+ExplainsScript file run old new fault.Memory = ⊥
+ExplainsScript file run old new (fault.Graph name) = ⊥
+ExplainsScript file run old new (fault.Text refused) = ⊥
+ExplainsScript file run old new fault.Unconfirmed = ⊥
 
 -- ---- all of them
 

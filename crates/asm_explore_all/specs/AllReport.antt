@@ -1,7 +1,6 @@
 -- Definition. What is printed of an exploration of all runs.
 --     status_of finding             the status
---     WordsTell                     the words are of the fault that is found; if a state was reached
---                                   twice, which is an error of this program, there are none
+--     WordsTell                     the words are of the fault that is found, if there is one
 --     IsReport                      the first comment says what is found, the others are the facts,
 --                                   and the script is that of the run that is found
 --     AreFilesOf files              the files for what is found of the specification with this text:
@@ -9,10 +8,14 @@
 --                                   state
 --     IsReported                    what is printed says what is found, and these files are made
 --     IsReportedBy                  the files that are known to be made grow by these
---     AreBegunBy                    the files that are known to be made grow by the first of these,
---                                   where the last one may be cut
---     LeavesFiles                   if there is no report: no file is made, or they are begun
-use Rattle.std.specs.Prelude.{◌≡◌, ◌⊎◌, ℕ, List, [], ◌++◌, Option, option_map, ⊤}
+--     StopsInFiles                  the files that are known to be made grow by those before the one
+--                                   of this name, which may be cut
+--     MakesFirstFiles               no file is made, or the first of them are
+--     ExplainsAll                   why there is no report, and what is made: a text is refused, and
+--                                   no file is made; the file of the graph or of the script can't be
+--                                   written; memory ran out; or the run that was found isn't
+--                                   confirmed, and all files are made
+use Rattle.std.specs.Prelude.{◌≡◌, ◌⊎◌, ℕ, List, [], ◌++◌, Option, Some, option_map, ⊤}
 use Rattle.asm_state.specs.declared.operation.Op.{Op}
 use Rattle.asm_syntax.specs.code.Views.{spec_of}
 use Rattle.asm_syntax.specs.declared.term.Term.{Term}
@@ -22,14 +25,17 @@ use Rattle.asm_explore.specs.declared.exploration_result.ExplorationResult.{Expl
 use Rattle.asm_explore.specs.declared.exploration_result.Finding.{Finding}
 use Rattle.asm_explore.specs.declared.exploration_result.Finding.TheVariants as finding
 use Rattle.asm_explore_texts.specs.declared.conditions.Conditions.{Conditions}
+use Rattle.asm_explore_words.specs.declared.fault.Fault.{Fault}
+use Rattle.asm_explore_words.specs.declared.fault.Fault.TheVariants as fault
 use Rattle.asm_explore_words.specs.declared.settings.Settings.{Settings}
 use Rattle.asm_explore_report.specs.FaultWords.{BadTells, IsBroken, unwritten_words}
 use Rattle.asm_explore_report.specs.Printed.{IsPrinted}
+use Rattle.asm_explore_report.specs.Refusals.{IsQuestionRefused}
 use Rattle.asm_explore_report.specs.declared.report.Report.{Report}
 use Rattle.asm_explore_all.specs.AllFacts.{AreFacts, IsDrawn, quiet_files, shown_in}
 use Rattle.asm_explore_all.specs.CheckedQuestions.{IsExplored}
 use Rattle.asm_explore_all.specs.FindingLine.{first_line}
-use Rattle.asm_explore_all.specs.MadeFiles.{Begins, MadeFile, Makes}
+use Rattle.asm_explore_all.specs.MadeFiles.{MadeFile, Makes, MakesFirst, StopsAt}
 use Rattle.asm_explore_all.specs.declared.checked_question.CheckedQuestion.{CheckedQuestion}
 
 abbrev pub status_of : Finding → ℕ
@@ -79,8 +85,15 @@ module _ (text : List ℕ) (conditions : Conditions) (settings : Settings) where
 
   -- ---- without a report
 
-  abbrev pub AreBegunBy : (old new : Option (List MadeFile)) → Type 0
-  AreBegunBy old new = (files : List MadeFile) × AreFilesOf files × Begins old new files
+  abbrev pub StopsInFiles : (old new : Option (List MadeFile)) → (name : List ℕ) → Type 0
+  StopsInFiles old new name = (files : List MadeFile) × AreFilesOf files × StopsAt old new name files
 
-  abbrev pub LeavesFiles : (old new : Option (List MadeFile)) → Type 0
-  LeavesFiles old new = Makes old new [] ⊎ AreBegunBy old new
+  abbrev pub MakesFirstFiles : (old new : Option (List MadeFile)) → Type 0
+  MakesFirstFiles old new = Makes old new [] ⊎ ((files : List MadeFile) × AreFilesOf files × MakesFirst old new files)
+
+  abbrev pub ExplainsAll : (old new : Option (List MadeFile)) → Fault → Type 0
+  ExplainsAll old new (fault.Text refused) = IsQuestionRefused text settings.spec.now conditions refused × Makes old new []
+  ExplainsAll old new (fault.Graph name) = (option_map (λ file. file.now) settings.dot ≡ Some name.now) × StopsInFiles old new name.now
+  ExplainsAll old new (fault.QuietScript name) = (option_map (λ file. file.now) settings.quiet ≡ Some name.now) × StopsInFiles old new name.now
+  ExplainsAll old new fault.Memory = MakesFirstFiles old new
+  ExplainsAll old new fault.Unconfirmed = (files : List MadeFile) × AreFilesOf files × Makes old new files

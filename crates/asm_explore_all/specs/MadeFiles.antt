@@ -1,9 +1,10 @@
 -- Definition. Files that are made.
---     MadeFile                 a file's name, and its bytes
---     Makes old new files      the files that are known to be made grow by these, in order
---     AreBegun made files      the first of the files are made; the last one that is made may have a
---                              front of its bytes alone
---     Begins old new files     the files that are known to be made grow by the first of these, so
+--     MadeFile                   a file's name, and its bytes
+--     Makes old new files        the files that are known to be made grow by these, in order
+--     IsCut made file            a file of this name, with a front of its bytes
+--     StopsAt old new name files    they grow by those before a file of this name; this one may be
+--                                made too, with a front of its bytes
+--     MakesFirst old new files   they grow by the first of these
 use Rattle.std.specs.Prelude.{◌≡◌, ◌⊎◌, ℕ, List, [], ◌∷◌, ◌++◌, Option, Some, None, take, ⊤}
 
 abbrev pub MadeFile : Type 0
@@ -16,14 +17,16 @@ Makes (Some before) (Some after) files = after ≡ before ++ files
 
 -- ---- files that may be cut
 
--- a file of this name, with a front of its bytes
 abbrev pub IsCut : (made file : MadeFile) → Type 0
 IsCut made file = (n : ℕ) × (made ≡ (file.0, take n file.1))
 
-abbrev pub AreBegun : (made files : List MadeFile) → Type 0
-AreBegun [] files = ⊤
-AreBegun (one ∷ made) [] = ⊥
-AreBegun (one ∷ made) (file ∷ files) = ((one ≡ file) × AreBegun made files) ⊎ (IsCut one file × (made ≡ []))
+pub record StopsAt (old new : Option (List MadeFile)) (name : List ℕ) (files : List MadeFile) : Type 0 where
+  pub before : List MadeFile
+  pub file : MadeFile
+  pub others : List MadeFile
+  pub split : files ≡ before ++ file ∷ others
+  pub named : file.0 ≡ name
+  pub made : Makes old new before ⊎ ((cut : MadeFile) × IsCut cut file × Makes old new (before ++ cut ∷ []))
 
-abbrev pub Begins : (old new : Option (List MadeFile)) → List MadeFile → Type 0
-Begins old new files = (made : List MadeFile) × Makes old new made × AreBegun made files
+abbrev pub MakesFirst : (old new : Option (List MadeFile)) → List MadeFile → Type 0
+MakesFirst old new files = (n : ℕ) × Makes old new (take n files)

@@ -1,11 +1,11 @@
 //! What is printed of an exploration of all runs.
-ghost use Rattle.std.specs.Prelude.{◌≡◌, ◌<◌, ◌≤◌, List, IfOk, OnErr};
+ghost use Rattle.std.specs.Prelude.{◌≡◌, ◌<◌, ◌≤◌, List, IfErr, IfOk};
 ghost use Rattle.asm_state.specs.declared.operation.Op.{Op};
 ghost use Rattle.asm_syntax.specs.code.Views.{spec_of};
 ghost use Rattle.asm_syntax.specs.declared.term.Term.{Term as Code};
 ghost use Rattle.asm_run.specs.Headline.{IsAccepted};
 ghost use Rattle.asm_explore_texts.specs.Conditions.{IsJoined};
-ghost use Rattle.asm_explore_all.specs.AllReport.{IsReport, IsReportedBy, LeavesFiles, WordsTell, status_of as found_status};
+ghost use Rattle.asm_explore_all.specs.AllReport.{ExplainsAll, IsReport, IsReportedBy, WordsTell, status_of as found_status};
 ghost use Rattle.asm_explore_all.specs.CheckedQuestions.{IsAsked};
 ghost use Rattle.asm_explore_all.specs.code.GraphFiles.{graph_lines};
 
@@ -20,7 +20,7 @@ use asm_explore_report::fault_words::{Subject, UNWRITTEN, bad_words, first_words
 use asm_explore_report::printed::printed;
 use asm_explore_report::report::Report;
 use asm_explore_texts::conditions::Conditions;
-use asm_explore_words::fault::Fault;
+use asm_explore_words::fault::{Fault, Unshown};
 use asm_explore_words::settings::Settings;
 use asm_explore_workers::explore_all_by;
 use asm_limits::run_limits::WORKERS;
@@ -39,13 +39,13 @@ fn status_of(finding: &Finding) -> u8
 }
 
 /// The words for the fault that is found, if there is one.
-fn words_of<'w, R: Threads + Sync>(
+fn words_of<R: Threads + Sync>(
     rt: &R,
     alloc: Global,
     text: &[u8],
     subject: &Subject<'_>,
     finding: &Finding,
-) -> Result<Vec<u8>, Fault<'w>>
+) -> Result<Vec<u8>, Unshown>
     ensures { (links : List (Op × Code)) → IsJoined links subject.now.always.now → IsAccepted text.now (spec_of subject.now.checked.now.spec) →
         IfOk result (λ words. WordsTell subject.now.checked.now links subject.now.turns finding.now words.items) }
 {
@@ -62,16 +62,16 @@ fn words_of<'w, R: Threads + Sync>(
 }
 
 /// What is printed of a result for what was asked of the specification with this text.
-fn printed_of<'w, R: Threads + Sync>(
+fn printed_of<R: Threads + Sync>(
     rt: &R,
     alloc: Global,
     text: &[u8],
     asked: &CheckedQuestion,
-    conditions: &Conditions<'w>,
-    settings: &Settings<'w>,
+    conditions: &Conditions<'_>,
+    settings: &Settings<'_>,
     answered: &ExplorationResult,
     drawing: GraphFile,
-) -> Result<Vec<u8>, Fault<'w>>
+) -> Result<Vec<u8>, Unshown>
     requires accepted { IsAccepted text.now (spec_of asked.now.checked.spec) }
     ensures { (links : List (Op × Code)) → IsJoined links asked.now.question.always →
         IfOk result (λ whole. IsReport text.now conditions.now settings.now asked.now links answered.now (graph_lines drawing) whole.items) }
@@ -123,7 +123,7 @@ fn reported<'w, R: Threads + Sync, F: NewFiles, W: Watch<Progress>>(
 ) -> Result<Report, Fault<'w>>
     requires asked { IsAsked text.now conditions.now settings.now asked.now }
     ensures reported { IfOk result (IsReportedBy text.now conditions.now settings.now (F.made files.old) (F.made files.new)) }
-    ensures left { OnErr result (LeavesFiles text.now conditions.now settings.now (F.made files.old) (F.made files.new)) }
+    ensures explained { IfErr result (ExplainsAll text.now conditions.now settings.now (F.made files.old) (F.made files.new)) }
 {
     let workers = workers_of(settings);
     let (checked, question) = (&asked.checked, &asked.question);
@@ -149,7 +149,7 @@ pub fn all_report<'w, R: Threads + Sync, F: NewFiles, W: Watch<Progress>>(
     watch: &mut W,
 ) -> Result<Report, Fault<'w>>
     ensures reported { IfOk result (IsReportedBy text.now conditions.now settings.now (F.made files.old) (F.made files.new)) }
-    ensures left { OnErr result (LeavesFiles text.now conditions.now settings.now (F.made files.old) (F.made files.new)) }
+    ensures explained { IfErr result (ExplainsAll text.now conditions.now settings.now (F.made files.old) (F.made files.new)) }
 {
     let asked = ask(alloc, text, conditions, settings)?;
     let report = reported(rt, files, alloc, text, &asked, conditions, settings, watch);

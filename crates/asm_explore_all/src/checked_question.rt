@@ -1,9 +1,11 @@
 //! What is asked of all runs of a specification, from the texts.
-ghost use Rattle.std.specs.Prelude.{ℕ, List, IfOk};
+ghost use Rattle.std.specs.Prelude.{ℕ, List, IfErr, IfOk};
 ghost use Rattle.asm_syntax.specs.code.Views.{spec_of};
 ghost use Rattle.asm_run.specs.Headline.{IsAccepted};
 ghost use Rattle.asm_explore_all.specs.CheckedQuestions.{IsAsked};
+ghost use Rattle.asm_explore_report.specs.Refusals.{IsQuestionRefused};
 ghost use Rattle.asm_explore_texts.specs.Conditions.{MayBeConditionOf, text_of};
+ghost use Rattle.asm_explore_texts.specs.RefusedTexts.{ExplainsText, IsAnyRefused, IsOtherRefused};
 
 use asm_check::Checked;
 use asm_explore::Question;
@@ -28,7 +30,8 @@ pub fn ask<'w>(
     conditions: &Conditions<'w>,
     settings: &Settings<'w>,
 ) -> Result<CheckedQuestion, Fault<'w>>
-    ensures { IfOk result (IsAsked text.now conditions.now settings.now) }
+    ensures found { IfOk result (IsAsked text.now conditions.now settings.now) }
+    ensures refused { IfErr result (ExplainsText (IsQuestionRefused text.now settings.now.spec.now conditions.now)) }
 {
     let checked = checked(alloc, text, settings.spec)?;
     match question_of(alloc, &checked, conditions, settings) {
@@ -47,8 +50,9 @@ fn question_of<'w>(
     conditions: &Conditions<'w>,
     settings: &Settings<'w>,
 ) -> Result<Question, Fault<'w>>
-    ensures { IfOk result (λ question. (text : List ℕ) → IsAccepted text (spec_of checked.now.spec)
+    ensures found { IfOk result (λ question. (text : List ℕ) → IsAccepted text (spec_of checked.now.spec)
         → IsAsked text conditions.now settings.now (record { checked = checked.now; question = question })) }
+    ensures refused { IfErr result (ExplainsText (IsAnyRefused (spec_of checked.now.spec) conditions.now)) }
 {
     let always = all_asked(alloc, checked, conditions.always.as_slice())?;
     match other_terms(alloc, checked, conditions) {
@@ -83,6 +87,7 @@ fn other_terms<'w>(
 ) -> Result<OtherTerms, Fault<'w>>
     ensures within { IfOk result (λ terms. MayBeConditionOf (spec_of checked.now.spec) (text_of conditions.now.within) terms.within) }
     ensures when_quiet { IfOk result (λ terms. MayBeConditionOf (spec_of checked.now.spec) (text_of conditions.now.when_quiet) terms.when_quiet) }
+    ensures refused { IfErr result (ExplainsText (IsOtherRefused (spec_of checked.now.spec) conditions.now)) }
 {
     let within = optional_term(alloc, checked, &conditions.within)?;
     match optional_term(alloc, checked, &conditions.when_quiet) {

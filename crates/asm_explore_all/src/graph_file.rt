@@ -1,7 +1,7 @@
 //! The graph of states, written to a file.
-ghost use Rattle.std.specs.Prelude.{List, option_map, IfNone, IfOk, IfSome, OnErr};
+ghost use Rattle.std.specs.Prelude.{List, option_map, IfErr, IfNone, IfOk, IfSome};
 ghost use Rattle.std.specs.String.{string_bytes};
-ghost use Rattle.asm_explore_all.specs.AllFacts.{HasTooMany, IsBegun, IsDrawn, IsGraphText};
+ghost use Rattle.asm_explore_all.specs.AllFacts.{ExplainsDrawing, HasTooMany, IsDrawn, IsGraphText};
 ghost use Rattle.asm_explore_all.specs.MadeFiles.{MadeFile, Makes};
 ghost use Rattle.asm_explore_all.specs.code.GraphFiles.{graph_lines};
 
@@ -9,7 +9,7 @@ use crate::checked_question::CheckedQuestion;
 use crate::files::NewFiles;
 use asm_explore_words::fault::Fault;
 use asm_graph::{GraphError, dot_text, state_graph};
-use std::alloc::Global;
+use std::alloc::{AllocError, Global};
 
 /// How many states a graph has at most.
 const MAX_GRAPH_STATES: u32 = 2000;
@@ -26,13 +26,13 @@ pub(crate) enum GraphFile {
 }
 
 /// The text of the graph of states that the question comes to, unless it has too many.
-fn graph_text<'w>(alloc: Global, asked: &CheckedQuestion) -> Result<Option<String>, Fault<'w>>
+fn graph_text(alloc: Global, asked: &CheckedQuestion) -> Result<Option<String>, AllocError>
     ensures few { IfOk result (λ text. IfSome text (λ dot. IsGraphText asked.now (string_bytes dot))) }
     ensures many { IfOk result (λ text. IfNone text (HasTooMany asked.now)) }
 {
     let graph = match state_graph(alloc, &asked.checked, &asked.question, MAX_GRAPH_STATES) {
         Ok(graph) => graph,
-        Err(GraphError::Memory) => return Err(Fault::Memory),
+        Err(GraphError::Memory) => return Err(AllocError),
         Err(GraphError::TooMany) => return Ok(None),
     };
     Ok(Some(dot_text(alloc, &asked.checked, &graph)?))
@@ -49,7 +49,7 @@ pub(crate) fn draw<'w, F: NewFiles>(
 ) -> Result<GraphFile, Fault<'w>>
     ensures drawn { IfOk result (λ drawing. (made : List MadeFile) × Makes (F.made files.old) (F.made files.new) made
         × IsDrawn asked.now (option_map (λ name. name.now) name.entry) (graph_lines drawing) made) }
-    ensures begun { OnErr result (IsBegun asked.now (option_map (λ name. name.now) name.entry) (F.made files.old) (F.made files.new)) }
+    ensures explained { IfErr result (ExplainsDrawing asked.now (option_map (λ name. name.now) name.entry) (F.made files.old) (F.made files.new)) }
 {
     let Some(name) = name else {
         return Ok(GraphFile::NotAsked);

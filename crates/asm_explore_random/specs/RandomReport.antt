@@ -10,6 +10,8 @@
 --                                the script is that of the run that is found
 --     IsRandomReported           what is printed says what is found of the specification with this
 --                                text
+--     ExplainsRandom             why there is no report: a text is refused, memory ran out, or of what
+--                                is asked the run that was found isn't confirmed
 use Rattle.std.specs.Prelude.{◌≡◌, ℕ, List, ◌++◌, codes, decimal, ⊤}
 use Rattle.asm_state.specs.declared.operation.Op.{Op}
 use Rattle.asm_syntax.specs.code.Views.{spec_of}
@@ -25,12 +27,15 @@ use Rattle.asm_random.specs.declared.random_result.RandomFinding.TheVariants as 
 use Rattle.asm_run.specs.Headline.{IsAccepted}
 use Rattle.asm_explore_report.specs.AskedConditions.{AreAllAsked}
 use Rattle.asm_explore_texts.specs.Conditions.{MayBeConditionOf, text_of, texts_of}
+use Rattle.asm_explore_report.specs.Refusals.{IsQuestionRefused}
 use Rattle.asm_explore_report.specs.FirstLine.{fault_line, first_state_line}
 use Rattle.asm_explore_report.specs.Printed.{IsPrinted}
 use Rattle.asm_explore_report.specs.FaultWords.{BadTells, IsBroken, unwritten_words}
 use Rattle.asm_explore_texts.specs.declared.conditions.Conditions.{Conditions}
 use Rattle.asm_explore_random.specs.declared.random_asked.CheckedRandomQuestion.{CheckedRandomQuestion}
 use Rattle.asm_explore_report.specs.declared.report.Report.{Report}
+use Rattle.asm_explore_words.specs.declared.fault.Fault.{Fault}
+use Rattle.asm_explore_words.specs.declared.fault.Fault.TheVariants as fault
 use Rattle.asm_explore_words.specs.declared.settings.RandomSettings.{RandomSettings}
 use Rattle.asm_explore_random.specs.RandomFacts.{random_facts, shown_in}
 
@@ -87,3 +92,12 @@ module _ (text : List ℕ) (conditions : Conditions) (settings : RandomSettings)
         Counts (specification_of (spec_of asked.checked.spec)) q.turns (IsMainOverLimit asked.checked q.turns q.outcomes) q.steps (term_holds asked.checked q.always) (term_holds asked.checked q.when_quiet) q.runs answer.runs answer.steps answer.finding
     pub status : report.status ≡ random_status answer.finding
     pub printed : IsRandomReport asked is_asked.always.links answer report.text.items
+
+  -- ---- without a report
+
+  abbrev pub ExplainsRandom : Fault → Type 0
+  ExplainsRandom (fault.Text refused) = IsQuestionRefused text settings.spec.now conditions refused
+  ExplainsRandom fault.Memory = ⊤
+  ExplainsRandom fault.Unconfirmed = (asked : CheckedRandomQuestion) × IsRandomAsked text conditions settings asked
+  ExplainsRandom (fault.Graph name) = ⊥
+  ExplainsRandom (fault.QuietScript name) = ⊥

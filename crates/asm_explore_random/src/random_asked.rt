@@ -1,7 +1,9 @@
 //! What is asked of random runs of a specification, from the texts.
-ghost use Rattle.std.specs.Prelude.{◌≡◌, ℕ, List, IfOk};
+ghost use Rattle.std.specs.Prelude.{◌≡◌, ℕ, List, IfErr, IfOk};
 ghost use Rattle.asm_syntax.specs.code.Views.{spec_of};
 ghost use Rattle.asm_run.specs.Headline.{IsAccepted};
+ghost use Rattle.asm_explore_report.specs.Refusals.{IsQuestionRefused};
+ghost use Rattle.asm_explore_texts.specs.RefusedTexts.{ExplainsText, IsAnyRefused};
 ghost use Rattle.asm_explore_random.specs.RandomReport.{IsRandomAsked};
 
 use asm_check::Checked;
@@ -26,7 +28,8 @@ pub fn ask_random<'w>(
     conditions: &Conditions<'w>,
     settings: &RandomSettings<'w>,
 ) -> Result<CheckedRandomQuestion, Fault<'w>>
-    ensures { IfOk result (IsRandomAsked text.now conditions.now settings.now) }
+    ensures found { IfOk result (IsRandomAsked text.now conditions.now settings.now) }
+    ensures refused { IfErr result (ExplainsText (IsQuestionRefused text.now settings.now.spec.now conditions.now)) }
 {
     let checked = checked(alloc, text, settings.spec)?;
     match question_of(alloc, &checked, conditions, settings) {
@@ -52,8 +55,9 @@ fn question_of<'w>(
     conditions: &Conditions<'w>,
     settings: &RandomSettings<'w>,
 ) -> Result<RandomQuestion, Fault<'w>>
-    ensures { IfOk result (λ question. (text : List ℕ) → IsAccepted text (spec_of checked.now.spec)
+    ensures found { IfOk result (λ question. (text : List ℕ) → IsAccepted text (spec_of checked.now.spec)
         → IsRandomAsked text conditions.now settings.now (record { checked = checked.now; question = question })) }
+    ensures refused { IfErr result (ExplainsText (IsAnyRefused (spec_of checked.now.spec) conditions.now)) }
 {
     let turns = turns_of(settings);
     let always = all_asked(alloc, checked, conditions.always.as_slice())?;

@@ -1,11 +1,11 @@
 //! What is printed of random runs.
-ghost use Rattle.std.specs.Prelude.{◌≡◌, List, IfOk};
+ghost use Rattle.std.specs.Prelude.{◌≡◌, List, IfErr, IfOk};
 ghost use Rattle.asm_state.specs.declared.operation.Op.{Op};
 ghost use Rattle.asm_syntax.specs.code.Views.{spec_of};
 ghost use Rattle.asm_syntax.specs.declared.term.Term.{Term as Code};
 ghost use Rattle.asm_run.specs.Headline.{IsAccepted};
 ghost use Rattle.asm_explore_texts.specs.Conditions.{IsJoined};
-ghost use Rattle.asm_explore_random.specs.RandomReport.{IsRandomAsked, IsRandomReport, IsRandomReported, RandomTells, random_line, random_status};
+ghost use Rattle.asm_explore_random.specs.RandomReport.{ExplainsRandom, IsRandomAsked, IsRandomReport, IsRandomReported, RandomTells, random_line, random_status};
 
 use crate::random_asked::{CheckedRandomQuestion, ask_random};
 use crate::random_facts::{random_facts, shown_run};
@@ -15,7 +15,7 @@ use asm_explore_report::first_line::{of_fault, of_first};
 use asm_explore_report::printed::printed;
 use asm_explore_report::report::Report;
 use asm_explore_texts::conditions::Conditions;
-use asm_explore_words::fault::Fault;
+use asm_explore_words::fault::{Fault, Unshown};
 use asm_explore_words::settings::RandomSettings;
 use asm_random::{RandomFinding, RandomProgress, RandomResult, random_runs};
 use std::alloc::{AllocError, Global};
@@ -32,13 +32,13 @@ fn status_of(finding: &RandomFinding) -> u8
 }
 
 /// The words for the fault that is found, if there is one.
-fn words_of<'w, R: Threads + Sync>(
+fn words_of<R: Threads + Sync>(
     rt: &R,
     alloc: Global,
     text: &[u8],
     subject: &Subject<'_>,
     finding: &RandomFinding,
-) -> Result<Vec<u8>, Fault<'w>>
+) -> Result<Vec<u8>, Unshown>
     ensures { (links : List (Op × Code)) → IsJoined links subject.now.always.now → IsAccepted text.now (spec_of subject.now.checked.now.spec) →
         IfOk result (λ words. RandomTells subject.now.checked.now links subject.now.turns finding.now words.items) }
 {
@@ -74,15 +74,15 @@ fn line_of(
 }
 
 /// What is printed of a result for what was asked of random runs.
-fn printed_of<'w, R: Threads + Sync>(
+fn printed_of<R: Threads + Sync>(
     rt: &R,
     alloc: Global,
     text: &[u8],
     asked: &CheckedRandomQuestion,
-    conditions: &Conditions<'w>,
-    settings: &RandomSettings<'w>,
+    conditions: &Conditions<'_>,
+    settings: &RandomSettings<'_>,
     answer: &RandomResult,
-) -> Result<Vec<u8>, Fault<'w>>
+) -> Result<Vec<u8>, Unshown>
     requires accepted { IsAccepted text.now (spec_of asked.now.checked.spec) }
     ensures { (links : List (Op × Code)) → IsJoined links asked.now.question.always →
         IfOk result (λ whole. IsRandomReport text.now conditions.now settings.now asked.now links answer.now whole.items) }
@@ -121,7 +121,8 @@ fn reported<'w, R: Threads + Sync, W: Watch<RandomProgress>>(
     watch: &mut W,
 ) -> Result<Report, Fault<'w>>
     requires asked { IsRandomAsked text.now conditions.now settings.now asked.now }
-    ensures { IfOk result (IsRandomReported text.now conditions.now settings.now) }
+    ensures reported { IfOk result (IsRandomReported text.now conditions.now settings.now) }
+    ensures explained { IfErr result (ExplainsRandom text.now conditions.now settings.now) }
 {
     let answer = random_runs(alloc, &asked.checked, &asked.question, watch)?;
     let text = printed_of(rt, alloc, text, asked, conditions, settings, &answer)?;
@@ -138,7 +139,8 @@ pub fn random_report<'w, R: Threads + Sync, W: Watch<RandomProgress>>(
     settings: &RandomSettings<'w>,
     watch: &mut W,
 ) -> Result<Report, Fault<'w>>
-    ensures { IfOk result (IsRandomReported text.now conditions.now settings.now) }
+    ensures reported { IfOk result (IsRandomReported text.now conditions.now settings.now) }
+    ensures explained { IfErr result (ExplainsRandom text.now conditions.now settings.now) }
 {
     let asked = ask_random(alloc, text, conditions, settings)?;
     let report = reported(rt, alloc, text, &asked, conditions, settings, watch);

@@ -7,6 +7,7 @@ pub mod Facts
 pub mod FaultWords
 pub mod FirstLine
 pub mod Printed
+pub mod Refusals
 pub mod Replay
 pub mod RunEnds
 pub mod ShownRuns

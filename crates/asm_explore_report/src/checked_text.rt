@@ -1,9 +1,11 @@
 //! A specification from its text, and the conditions that are asked of it.
-ghost use Rattle.std.specs.Prelude.{IfOk};
+ghost use Rattle.std.specs.Prelude.{IfErr, IfOk};
 ghost use Rattle.asm_syntax.specs.code.Views.{spec_of};
 ghost use Rattle.asm_run.specs.Headline.{IsAccepted};
 ghost use Rattle.asm_explore_report.specs.AskedConditions.{AreAllAsked};
+ghost use Rattle.asm_explore_report.specs.Refusals.{IsSpecificationError, IsSpecificationRefused};
 ghost use Rattle.asm_explore_texts.specs.Conditions.{texts_of};
+ghost use Rattle.asm_explore_texts.specs.RefusedTexts.{ExplainsText, IsOneRefused};
 
 use crate::laws::joined_law;
 use asm_check::{Checked, check};
@@ -21,7 +23,10 @@ fn refused<'w>(
     name: &'w str,
     error: TextError,
     at: Option<usize>,
-) -> Result<Fault<'w>, AllocError> {
+) -> Result<Fault<'w>, AllocError>
+    ensures { IsSpecificationError text.now error at →
+        IfOk result (ExplainsText (IsSpecificationRefused text.now name.now)) }
+{
     let text = Vec::from_slice(alloc, text)?;
     Ok(Fault::Text(RefusedText {
         source: Source::Specification(name),
@@ -33,7 +38,8 @@ fn refused<'w>(
 
 /// The specification with this text.
 pub fn checked<'w>(alloc: Global, text: &[u8], name: &'w str) -> Result<Checked, Fault<'w>>
-    ensures { IfOk result (λ checked. IsAccepted text.now (spec_of checked.spec)) }
+    ensures found { IfOk result (λ checked. IsAccepted text.now (spec_of checked.spec)) }
+    ensures refused { IfErr result (ExplainsText (IsSpecificationRefused text.now name.now)) }
 {
     let tree = match read(alloc, text) {
         Ok(tree) => tree,
@@ -59,7 +65,8 @@ pub fn all_asked<'w>(
     checked: &Checked,
     conditions: &[Condition<'w>],
 ) -> Result<Option<Term>, Fault<'w>>
-    ensures { IfOk result (AreAllAsked (texts_of conditions.now) checked.now) }
+    ensures found { IfOk result (AreAllAsked (texts_of conditions.now) checked.now) }
+    ensures refused { IfErr result (ExplainsText (IsOneRefused (spec_of checked.now.spec) conditions.now)) }
 {
     joined_law(checked);
     let links = links(alloc, checked, conditions)?;

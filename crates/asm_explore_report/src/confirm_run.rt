@@ -14,7 +14,7 @@ use crate::ended::{EndedRun, ended_run};
 use crate::shown_run::{ShownRun, run_of};
 use asm_check::Checked;
 use asm_explore::{BadRun, Fault as StepFault};
-use asm_explore_words::fault::Fault;
+use asm_explore_words::fault::Unshown;
 use asm_reader::{one_script, one_tree};
 use asm_run::end::EndKind;
 use asm_run::error::RunError;
@@ -31,36 +31,36 @@ fn shows(kind: EndKind, fault: StepFault) -> bool {
 }
 
 /// How the run that is shown ends.
-pub(crate) fn made<'w, R: Threads + Sync>(
+pub(crate) fn made<R: Threads + Sync>(
     rt: &R,
     alloc: Global,
     text: &[u8],
     turns: u32,
     run: ShownRun<'_>,
-) -> Result<EndedRun, Fault<'w>>
+) -> Result<EndedRun, Unshown>
     ensures end { IfOk result (λ ended. IsEndOf text.now run.entry.script.now turns run.entry.steps ended.end) }
     ensures trace { IfOk result (λ ended. IsTraceOf text.now run.entry.script.now turns run.entry.steps ended.trace.items) }
 {
     let Ok(steps) = u32::try_from(run.steps) else {
-        return Err(Fault::Unconfirmed);
+        return Err(Unshown::Unconfirmed);
     };
     match ended_run(rt, alloc, text, run.script, turns, steps) {
         Ok(ended) => Ok(ended),
-        Err(RunError::Memory | RunError::Write) => Err(Fault::Memory),
-        Err(_) => Err(Fault::Unconfirmed),
+        Err(RunError::Memory | RunError::Write) => Err(Unshown::Memory),
+        Err(_) => Err(Unshown::Unconfirmed),
     }
 }
 
 /// The words for the end of the run under the script that was found, over the specification of the
 /// text. The run ends as it was found to.
-pub(crate) fn end_words<'w, R: Threads + Sync>(
+pub(crate) fn end_words<R: Threads + Sync>(
     rt: &R,
     alloc: Global,
     text: &[u8],
     checked: &Checked,
     turns: u32,
     bad: &BadRun,
-) -> Result<Vec<u8>, Fault<'w>>
+) -> Result<Vec<u8>, Unshown>
     ensures { let s = spec_of checked.now.spec in
         IsAccepted text.now s → (script : Script) → IsScript (string_bytes bad.now.script) script →
         IfOk result (λ words. IsEndWords (names_in s) (book_run s turns script (steps_to bad.now.fault bad.now.step)).end words.items) }
@@ -69,7 +69,7 @@ pub(crate) fn end_words<'w, R: Threads + Sync>(
     one_script();
     let ended = made(rt, alloc, text, turns, run_of(bad))?;
     if !shows(ended.end.kind(), bad.fault) {
-        return Err(Fault::Unconfirmed);
+        return Err(Unshown::Unconfirmed);
     }
     let words = ended.words(alloc, checked)?;
     Ok(words)

@@ -1,8 +1,8 @@
 //! The fault that is found, in words.
 //!
 //! The words for a run that goes wrong come from making the run again. If it ended otherwise than
-//! the search found, the program would end with an error of its own (`Fault::Unconfirmed`) and give
-//! no report.
+//! the search found, the program would end with an error of its own (`Unshown::Unconfirmed`) and
+//! give no report.
 ghost use Rattle.std.specs.Prelude.{◌≡◌, List, length, IfOk};
 ghost use Rattle.std.specs.String.{string_bytes};
 ghost use Rattle.asm_state.specs.Signature.{count_of, state_of};
@@ -25,7 +25,7 @@ use crate::replay::state_after;
 use crate::shown_run::run_of;
 use asm_check::Checked;
 use asm_explore::{BadRun, Fault as StepFault};
-use asm_explore_words::fault::Fault;
+use asm_explore_words::fault::Unshown;
 use asm_reader::{one_script, read_script};
 use asm_state::state::State;
 use asm_syntax::InputError;
@@ -46,40 +46,40 @@ pub struct Subject<'s> {
 }
 
 /// The words for a state in which a condition isn't true.
-fn words_in<'w>(alloc: Global, subject: &Subject<'_>, state: &State) -> Result<Vec<u8>, Fault<'w>>
+fn words_in(alloc: Global, subject: &Subject<'_>, state: &State) -> Result<Vec<u8>, Unshown>
     requires { length state.now ≡ count_of (shape_of (spec_of subject.now.checked.now.spec)) }
     ensures { (links : List (Op × Code)) → IsJoined links subject.now.always.now →
         IfOk result (λ words. IsBroken subject.now.checked.now links (state_of (shape_of (spec_of subject.now.checked.now.spec)) state.now) words.items) }
 {
     match broken_in(alloc, subject.checked, subject.always, state)? {
         Some(words) => Ok(words),
-        None => Err(Fault::Unconfirmed),
+        None => Err(Unshown::Unconfirmed),
     }
 }
 
 /// The last state of the run under the script that was found.
-fn last_state<'w>(alloc: Global, subject: &Subject<'_>, bad: &BadRun) -> Result<State, Fault<'w>>
+fn last_state(alloc: Global, subject: &Subject<'_>, bad: &BadRun) -> Result<State, Unshown>
     ensures whole { IfOk result (λ s. length s ≡ count_of (shape_of (spec_of subject.now.checked.now.spec))) }
     ensures after { let s = spec_of subject.now.checked.now.spec in (script : lines.Script) → IsScript (string_bytes bad.now.script) script →
         IfOk result (λ A. IsAfter (specification_of s) subject.now.turns script (steps_to bad.now.fault bad.now.step) (state_of (shape_of s) A)) }
 {
     let Ok(steps) = u32::try_from(run_of(bad).steps) else {
-        return Err(Fault::Unconfirmed);
+        return Err(Unshown::Unconfirmed);
     };
     one_script();
     let script = match read_script(alloc, bad.script.as_bytes()) {
         Ok(script) => script,
-        Err(InputError::Memory) => return Err(Fault::Memory),
-        Err(InputError::Named(_)) => return Err(Fault::Unconfirmed),
+        Err(InputError::Memory) => return Err(Unshown::Memory),
+        Err(InputError::Named(_)) => return Err(Unshown::Unconfirmed),
     };
     match state_after(alloc, subject.checked, subject.turns, &script, steps)? {
         Some(state) => Ok(state),
-        None => Err(Fault::Unconfirmed),
+        None => Err(Unshown::Unconfirmed),
     }
 }
 
 /// The words for a first state in which a condition isn't true.
-pub fn first_words<'w>(alloc: Global, subject: &Subject<'_>) -> Result<Vec<u8>, Fault<'w>>
+pub fn first_words(alloc: Global, subject: &Subject<'_>) -> Result<Vec<u8>, Unshown>
     ensures { (links : List (Op × Code)) → IsJoined links subject.now.always.now →
         IfOk result (λ words. IsBroken subject.now.checked.now links (specification_of (spec_of subject.now.checked.now.spec)).initial words.items) }
 {
@@ -90,13 +90,13 @@ pub fn first_words<'w>(alloc: Global, subject: &Subject<'_>) -> Result<Vec<u8>, 
 
 /// The words for a run that goes wrong of the specification with this text, which is that of the
 /// subject. The run is made again.
-pub fn bad_words<'w, R: Threads + Sync>(
+pub fn bad_words<R: Threads + Sync>(
     rt: &R,
     alloc: Global,
     text: &[u8],
     subject: &Subject<'_>,
     bad: &BadRun,
-) -> Result<Vec<u8>, Fault<'w>>
+) -> Result<Vec<u8>, Unshown>
     ensures { (links : List (Op × Code)) → IsJoined links subject.now.always.now → IsAccepted text.now (spec_of subject.now.checked.now.spec) →
         IfOk result (λ words. BadTells subject.now.checked.now links subject.now.turns bad.now words.items) }
 {

@@ -12,7 +12,7 @@ ghost use Rattle.asm_explore_report.specs.ShownRuns.{script_of as script_in, sho
 use crate::comment::{add_comments, comments};
 use crate::shown_run::ShownRun;
 use crate::trace_lines::trace_lines;
-use asm_explore_words::fault::Fault;
+use asm_explore_words::fault::Unshown;
 use asm_reader::MAX_SCRIPT;
 use std::alloc::{AllocError, Global};
 use std::thread::Threads;
@@ -226,7 +226,7 @@ fn traced_run(asks: bool, shown: Option<ShownRun<'_>>) -> Option<ShownRun<'_>>
 
 /// A first comment and others, the lines of the trace of the run that is shown if they are asked
 /// for, and its script, if there is one.
-pub fn printed<'w, R: Threads + Sync>(
+pub fn printed<R: Threads + Sync>(
     rt: &R,
     alloc: Global,
     text: &[u8],
@@ -235,7 +235,7 @@ pub fn printed<'w, R: Threads + Sync>(
     first: &[u8],
     facts: &[Vec<u8>],
     shown: Option<ShownRun<'_>>,
-) -> Result<Vec<u8>, Fault<'w>>
+) -> Result<Vec<u8>, Unshown>
     ensures { IfOk result (λ whole. IsPrinted text.now turns asks first.now (lines_of facts.now) (shown_of shown.entry) whole.items) }
 {
     let trace = trace_lines(rt, alloc, text, turns, traced_run(asks, shown))?;

@@ -7,7 +7,7 @@ ghost use Rattle.asm_explore_report.specs.TraceLines.{text_lines};
 
 use crate::confirm_run::made;
 use crate::shown_run::ShownRun;
-use asm_explore_words::fault::Fault;
+use asm_explore_words::fault::Unshown;
 use std::alloc::{AllocError, Global};
 use std::thread::Threads;
 
@@ -56,13 +56,13 @@ fn add_lines(alloc: Global, lines: &mut Vec<Vec<u8>>, text: &[u8]) -> Result<(),
 }
 
 /// The lines of the trace of the run that is shown, if there is one. The run is made again.
-pub(crate) fn trace_lines<'w, R: Threads + Sync>(
+pub(crate) fn trace_lines<R: Threads + Sync>(
     rt: &R,
     alloc: Global,
     text: &[u8],
     turns: u32,
     shown: Option<ShownRun<'_>>,
-) -> Result<Vec<Vec<u8>>, Fault<'w>>
+) -> Result<Vec<Vec<u8>>, Unshown>
     ensures { IfOk result (λ lines. AreTraceLines text.now turns (shown_of shown.entry) (lines_of lines.items)) }
 {
     let mut lines = Vec::new(alloc);

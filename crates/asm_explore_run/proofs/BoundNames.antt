@@ -1,10 +1,11 @@
 -- Free. Names that are bound, each with its value.
 --     any_offset, all_offsets     tests of names by their offsets
 --     names_for        names that are in the text, one for each value
+--     apart_from, all_apart    names from one on that are apart, and none
 --     hidden_value, shown_value     a value whose name an inner one hides, and another
 --     next_bound       one value more, before those that follow
 --     all_bound        none follows
-use Rattle.std.proofs.Common.{◌≡◌, ◌∙◌, ◌+◌, ◌<◌, ◌≤◌, ℕ, Bool, true, false, ◌||◌, cond, get_or, append_assoc, append-nil, List, [], ◌∷◌, ◌++◌, length, min, take, drop, codes, inl, inr, ⊎_elim, refl, sym, ap, arith}
+use Rattle.std.proofs.Common.{◌≡◌, ◌∙◌, ◌+◌, ◌<◌, ◌≤◌, ◌==◌, ℕ, Bool, true, false, ◌||◌, cond, get_or, append_assoc, append-nil, List, [], ◌∷◌, ◌++◌, length, min, take, drop, codes, inl, inr, ⊎_elim, refl, sym, ap, subst, arith}
 use Rattle.std.specs.Prelude.{◌⊎◌, All, IsTrue}
 use Rattle.std.specs.Cmp.{first_so, second_so}
 use Rattle.std.specs.List.{list_all, list_any}
@@ -17,7 +18,7 @@ use Rattle.asm_state.specs.declared.value.Value.{Value}
 use Rattle.asm_syntax.specs.declared.name.Name.{Name}
 use Rattle.asm_run.specs.Trace.{TraceNames, value_text}
 use Rattle.asm_explore_texts.specs.Positions.{is_name_at, name_at}
-use Rattle.asm_explore_run.specs.ClashText.{AreNamesFor, bound_text, bound_value}
+use Rattle.asm_explore_run.specs.ClashText.{AreApart, AreNamesFor, bound_text, bound_value}
 use Rattle.asm_explore_run.specs.code.NameOffsets.{offsets}
 
 pub any_offset : (p : ℕ → Bool) (names : List (Bor Name)) → list_any (λ n. p n.now.at) names ≡ list_any p (offsets names)
@@ -31,8 +32,18 @@ all_offsets p (n ∷ names) are =
     (all_offsets p names (second_so (p n.now.at) (list_all (λ n. p n.now.at) names) are))
 
 pub names_for : (text : List ℕ) (at : ℕ) (names : List (Bor Name)) (vs : List Value) → is_name_at text at ≡ true → length names ≡ length vs
-    → list_all (λ n. is_name_at text n.now.at) names ≡ true → AreNamesFor text at (offsets names) vs
-names_for text at names vs place long are = record { place = place; names = all_offsets (is_name_at text) names are; each = length-map names (λ n. n.now.at) ∙ long }
+    → list_all (λ n. is_name_at text n.now.at) names ≡ true → AreApart (offsets names) → AreNamesFor text at (offsets names) vs
+names_for text at names vs place long are apart = record { place = place; names = all_offsets (is_name_at text) names are; each = length-map names (λ n. n.now.at) ∙ long; apart = apart }
+
+-- those from one on are apart if it isn't among those behind it, and these are apart
+pub apart_from : (names : List (Bor Name)) (i : ℕ) (n : Bor Name) → i < length names → n ≡ get_or names i n
+    → list_any (λ name. name.now.at == n.now.at) (drop (i + 1) names) ≡ false → AreApart (offsets (drop (i + 1) names)) → AreApart (offsets (drop i names))
+apart_from names i n low is none apart =
+    let there : drop i names ≡ n ∷ drop (i + 1) names = drop_more names i n low ∙ ap (λ x. x ∷ drop (i + 1) names) (sym is) in
+    subst (λ ns. AreApart (offsets ns)) (sym there) (sym (any_offset (λ at. at == n.now.at) (drop (i + 1) names)) ∙ none, apart)
+
+pub all_apart : (names : List (Bor Name)) (i : ℕ) → length names ≤ i → AreApart (offsets (drop i names))
+all_apart names i past = subst (λ ns. AreApart (offsets ns)) (sym (drop_all i names past)) tt
 
 past_one : (m n i : ℕ) → min m n ≤ i → (m ≤ i) ⊎ (n ≤ i)
 past_one m n i past = ⊎_elim (λ low. inr (omega (arith, low, past))) inl (cases_lt i m)

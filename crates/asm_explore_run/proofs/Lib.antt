@@ -5,3 +5,4 @@ mod KeySets
 mod RunStatuses
 mod ShortLines
 mod UnmetTexts
+mod WithoutReport

@@ -3,8 +3,9 @@
 --                                     the location of a clash; and if its update is outside of its
 --                                     function, at that with these arguments
 --     assignment_text                 its path, its location and its value
+--     AreApart offsets                none of the offsets is among those behind it
 --     AreNamesFor                     a name of the text is at an offset, and for each value that is
---                                     bound one at another
+--                                     bound one at an offset of its own
 --     is_hidden text inner at         one of the names at these offsets is that at `at`
 --     bound_text                      values that are bound, the innermost first, each with the name
 --                                     at its offset, if no inner one hides it
@@ -18,7 +19,7 @@
 --     greatest_shown                  so many lines of assignments don't fit into a script
 --     IsClashText                     the first of them are shown, as many as fit into a script; the
 --                                     first comment is always printed
-use Rattle.std.specs.Prelude.{◌≡◌, ◌⊎◌, ◌+◌, ◌-◌, ◌<◌, ◌≤◌, ℕ, zero, suc, Bool, cond, List, [], ◌∷◌, ◌++◌, All, length, take, slice_get, Some, codes, decimal}
+use Rattle.std.specs.Prelude.{◌≡◌, ◌⊎◌, ◌+◌, ◌-◌, ◌<◌, ◌≤◌, ◌==◌, ℕ, zero, suc, Bool, false, cond, ⊤, List, [], ◌∷◌, ◌++◌, All, length, take, slice_get, Some, codes, decimal}
 use Rattle.std.specs.List.{list_any}
 use Rattle.std.specs.Str.{bytes_eq}
 use Rattle.asm_state.specs.declared.value.Value.{Value}
@@ -41,11 +42,16 @@ module _ (names : TraceNames) where
   abbrev pub assignment_text : (location : List ℕ) → Assignment → List ℕ
   assignment_text location a = codes "place " ++ (path_text a.path ++ (codes ": " ++ (location ++ (codes " := " ++ value_text names.elements a.value))))
 
+abbrev pub AreApart : (offsets : List ℕ) → Type 0
+AreApart [] = ⊤
+AreApart (at ∷ others) = (list_any (λ other. other == at) others ≡ false) × AreApart others
+
 module _ (text : List ℕ) where
   pub record AreNamesFor (at : ℕ) (bound : List ℕ) (vs : List Value) : Type 0 where
     pub place : IsNameAt text at
     pub names : All (IsNameAt text) bound
     pub each : length bound ≡ length vs
+    pub apart : AreApart bound
 
   abbrev pub is_hidden : (inner : List ℕ) → ℕ → Bool
   is_hidden inner at = list_any (λ other. bytes_eq (name_at text other) (name_at text at)) inner

@@ -13,7 +13,9 @@
 --                                     how many there are
 --     IsClashReported                 comments: how the run ends, and one for each assignment by
 --                                     which it does, as many as fit into a script
-use Rattle.std.specs.Prelude.{◌≡◌, ◌⊎◌, ℕ, List, [], ◌∷◌}
+--     ExplainsRun                     why there is no report: a text is refused, memory ran out, or
+--                                     the run of texts that aren't is refused
+use Rattle.std.specs.Prelude.{◌≡◌, ◌⊎◌, ℕ, List, [], ◌∷◌, ⊤}
 use Rattle.asm_syntax.specs.SourceTree.{Spec}
 use Rattle.asm_reader.specs.code.ExactLines.{exactly}
 use Rattle.asm_reader.specs.ScriptLines.{Line, Script}
@@ -38,7 +40,10 @@ use Rattle.asm_explore_report.specs.EndWords.{IsRunLine}
 use Rattle.asm_explore_run.specs.ChoicesText.{IsChoicesText}
 use Rattle.asm_explore_run.specs.ClashText.{IsClashText, greatest_shown}
 use Rattle.asm_explore_run.specs.UnmetLines.{unmet_lines}
+use Rattle.asm_explore_report.specs.Refusals.{IsRunRefused}
 use Rattle.asm_explore_report.specs.declared.report.Report.{Report}
+use Rattle.asm_explore_words.specs.declared.fault.Fault.{Fault}
+use Rattle.asm_explore_words.specs.declared.fault.Fault.TheVariants as fault
 use Rattle.asm_explore_words.specs.declared.settings.RunSettings.{RunSettings}
 
 -- the run that settings ask for
@@ -111,3 +116,13 @@ module _ (text script_text : List ℕ) (settings : RunSettings) (report : Report
     pub tells : IsRunLine (names_in tree) settings.steps (run_asked tree settings script).end first
     pub printed : IsClashText text (names_in tree) end first (assignments_in clash) (count_in clash) report.text.items
     pub status : report.status ≡ status_of_end (run_asked tree settings script).end
+
+-- ---- without a report
+
+module _ (text script_text : List ℕ) (settings : RunSettings) where
+  abbrev pub ExplainsRun : Fault → Type 0
+  ExplainsRun (fault.Text refused) = IsRunRefused text settings.spec.now script_text settings refused
+  ExplainsRun fault.Memory = ⊤
+  ExplainsRun fault.Unconfirmed = ((tree : Spec) × IsAccepted text tree) × ((script : Script) × IsScript script_text script)
+  ExplainsRun (fault.Graph name) = ⊥
+  ExplainsRun (fault.QuietScript name) = ⊥

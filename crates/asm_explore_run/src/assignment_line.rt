@@ -1,11 +1,11 @@
 //! What is said of an assignment.
-ghost use Rattle.std.specs.Prelude.{◌≡◌, ◌++◌, [], IfOk, IsTrue, OnOk};
+ghost use Rattle.std.specs.Prelude.{◌≡◌, ◌==◌, ◌++◌, [], IfOk, IsTrue, OnOk};
 ghost use Rattle.std.specs.List.{list_all, list_any};
 ghost use Rattle.std.specs.Str.{bytes_eq};
 ghost use Rattle.asm_syntax.specs.code.Views.{spec_of};
 ghost use Rattle.asm_run.specs.Written.{names_in};
 ghost use Rattle.asm_explore_texts.specs.Positions as positions;
-ghost use Rattle.asm_explore_run.specs.ClashText.{AreNamesFor, IsLineOf, IsPlacedLine, assignment_text, bound_text, bound_value, located};
+ghost use Rattle.asm_explore_run.specs.ClashText.{AreApart, AreNamesFor, IsLineOf, IsPlacedLine, assignment_text, bound_text, bound_value, located};
 ghost use Rattle.asm_explore_run.specs.code.NameOffsets.{offsets};
 
 use asm_check::Checked;
@@ -51,7 +51,30 @@ fn are_names(text: &[u8], rule: &RuleInText<'_>, values: &[Word]) -> bool
     if rule.bound.len() != values.len() {
         return false;
     }
-    is_name_at(text, rule.name.at) && are_all_in(text, rule.bound.as_slice())
+    let names = rule.bound.as_slice();
+    if !are_apart(names) {
+        return false;
+    }
+    is_name_at(text, rule.name.at) && are_all_in(text, names)
+}
+
+/// Whether no two of these are at the same offset.
+fn are_apart(names: &[&Name]) -> bool
+    ensures { IsTrue result → AreApart (offsets names.now) }
+{
+    for i in 0..names.len() {
+        if is_one_at(&names[i + 1..], names[i]) {
+            return false;
+        }
+    }
+    true
+}
+
+/// Whether one of these is at the same offset.
+fn is_one_at(names: &[&Name], name: &Name) -> bool
+    ensures { result ≡ list_any (λ other. other.now.at == name.now.at) names.now }
+{
+    names.iter().any(|other| other.at == name.at)
 }
 
 /// Whether each of these is a name of the text.

@@ -1,5 +1,5 @@
 //! What is printed of the choices of a run.
-ghost use Rattle.std.specs.Prelude.{◌≡◌, ◌⊎◌, IfOk};
+ghost use Rattle.std.specs.Prelude.{◌≡◌, ◌⊎◌, IfErr, IfOk};
 ghost use Rattle.asm_syntax.specs.code.Views.{spec_of};
 ghost use Rattle.asm_meaning.specs.Declarations.{specification_of};
 ghost use Rattle.asm_meaning.specs.Run as runs;
@@ -11,10 +11,11 @@ ghost use Rattle.asm_explore.specs.RunChoices.{AreAsked, AreChoices, MakesTheRun
 ghost use Rattle.asm_explore_report.specs.Commented.{HasNoText};
 ghost use Rattle.asm_explore_report.specs.Comments.{lines_of};
 ghost use Rattle.asm_explore_report.specs.EndWords.{IsRunLine};
+ghost use Rattle.asm_explore_texts.specs.RefusedTexts.{ExplainsText, IsScriptRefused};
 ghost use Rattle.asm_run.specs.Headline.{IsAccepted, IsReturned};
 ghost use Rattle.asm_run.specs.Written.{names_in};
 ghost use Rattle.asm_explore_run.specs.ChoicesText.{IsChoicesText};
-ghost use Rattle.asm_explore_run.specs.RunReport.{AreChoicesReported, IsPrintedOf, choices_status};
+ghost use Rattle.asm_explore_run.specs.RunReport.{AreChoicesReported, ExplainsRun, IsPrintedOf, choices_status};
 ghost use Rattle.asm_explore_run.specs.UnmetLines as unmet;
 ghost use Rattle.asm_explore_run.specs.code.EndStatuses.{status_with};
 
@@ -86,10 +87,11 @@ fn run_of<'w>(
     script_text: &[u8],
     settings: &RunSettings<'w>,
 ) -> Result<RunChoices, Fault<'w>>
-    ensures { IfOk result (λ run. (script : Script) × IsScript script_text.now script ×
+    ensures found { IfOk result (λ run. (script : Script) × IsScript script_text.now script ×
         AreChoices (spec_of checked.now.spec) settings.now.turns script settings.now.steps (choices_in run) ×
         MakesTheRun (specification_of (spec_of checked.now.spec)) settings.now.turns script settings.now.steps (lines_forward (choices_in run)) ×
         AreAsked (spec_of checked.now.spec) settings.now.turns script settings.now.steps (asked_in run)) }
+    ensures refused { IfErr result (ExplainsText (IsScriptRefused script_text.now settings.now)) }
 {
     let script = script_given(alloc, script_text, settings)?;
     let run = choices_of_run(alloc, checked, settings.turns, &script, settings.steps)?;
@@ -137,7 +139,8 @@ fn report_of<'w, R: Threads + Sync>(
     settings: &RunSettings<'w>,
 ) -> Result<Report, Fault<'w>>
     requires accepted { IsAccepted text.now (spec_of checked.now.spec) }
-    ensures { IfOk result (AreChoicesReported text.now script_text.now settings.now) }
+    ensures reported { IfOk result (AreChoicesReported text.now script_text.now settings.now) }
+    ensures explained { IfErr result (ExplainsRun text.now script_text.now settings.now) }
 {
     one_tree();
     one_script();
@@ -155,7 +158,8 @@ pub fn choices_report<'w, R: Threads + Sync>(
     script_text: &[u8],
     settings: &RunSettings<'w>,
 ) -> Result<Report, Fault<'w>>
-    ensures { IfOk result (AreChoicesReported text.now script_text.now settings.now) }
+    ensures reported { IfOk result (AreChoicesReported text.now script_text.now settings.now) }
+    ensures explained { IfErr result (ExplainsRun text.now script_text.now settings.now) }
 {
     let checked = checked(alloc, text, settings.spec)?;
     let report = report_of(rt, alloc, text, &checked, script_text, settings);

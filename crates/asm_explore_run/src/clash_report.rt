@@ -1,16 +1,17 @@
 //! What is printed of the assignments by which a run ends.
-ghost use Rattle.std.specs.Prelude.{◌≡◌, ℕ, List, length, min, IfOk};
+ghost use Rattle.std.specs.Prelude.{◌≡◌, ℕ, List, length, min, IfErr, IfOk};
 ghost use Rattle.asm_syntax.specs.code.Views.{spec_of};
 ghost use Rattle.asm_reader.specs.ScriptLines.{Script};
 ghost use Rattle.asm_reader.specs.ScriptText.{IsScript};
 ghost use Rattle.asm_meaning.specs.Run as runs;
 ghost use Rattle.asm_run.specs.Headline.{IsAccepted, IsReturned};
 ghost use Rattle.asm_explore_report.specs.EndWords.{IsRunLine};
+ghost use Rattle.asm_explore_texts.specs.RefusedTexts.{ExplainsText, IsScriptRefused};
 ghost use Rattle.asm_clash.specs.ClashOfRun.{EndsSo};
 ghost use Rattle.asm_clash.specs.code.ReadByCode.{AreReadByCode};
 ghost use Rattle.asm_run.specs.Written.{names_in};
 ghost use Rattle.asm_explore_run.specs.ClashText.{IsClashText, greatest_shown};
-ghost use Rattle.asm_explore_run.specs.RunReport.{IsClashReported, assignments_in, count_in, run_asked};
+ghost use Rattle.asm_explore_run.specs.RunReport.{ExplainsRun, IsClashReported, assignments_in, count_in, run_asked};
 ghost use Rattle.asm_explore_run.specs.code.EndStatuses.{clash_status};
 
 use crate::clash_text::{MAX_SHOWN, clash_text};
@@ -65,10 +66,11 @@ fn clash_of<'w>(
     script_text: &[u8],
     settings: &RunSettings<'w>,
 ) -> Result<ClashOfRun, Fault<'w>>
-    ensures { let tree = spec_of checked.now.spec in
+    ensures found { let tree = spec_of checked.now.spec in
         IfOk result (λ clash. (script : Script) × IsScript script_text.now script ×
         EndsSo tree settings.now.turns script greatest_shown (run_asked tree settings.now script) clash ×
         AreReadByCode tree settings.now.turns script greatest_shown (run_asked tree settings.now script) clash) }
+    ensures refused { IfErr result (ExplainsText (IsScriptRefused script_text.now settings.now)) }
 {
     let script = script_given(alloc, script_text, settings)?;
     let turns = settings.turns;
@@ -116,7 +118,8 @@ fn report_of<'w, R: Threads + Sync>(
     settings: &RunSettings<'w>,
 ) -> Result<Report, Fault<'w>>
     requires accepted { IsAccepted text.now (spec_of checked.now.spec) }
-    ensures { IfOk result (IsClashReported text.now script_text.now settings.now) }
+    ensures reported { IfOk result (IsClashReported text.now script_text.now settings.now) }
+    ensures explained { IfErr result (ExplainsRun text.now script_text.now settings.now) }
 {
     one_tree();
     one_script();
@@ -135,7 +138,8 @@ pub fn clash_report<'w, R: Threads + Sync>(
     script_text: &[u8],
     settings: &RunSettings<'w>,
 ) -> Result<Report, Fault<'w>>
-    ensures { IfOk result (IsClashReported text.now script_text.now settings.now) }
+    ensures reported { IfOk result (IsClashReported text.now script_text.now settings.now) }
+    ensures explained { IfErr result (ExplainsRun text.now script_text.now settings.now) }
 {
     let checked = checked(alloc, text, settings.spec)?;
     let report = report_of(rt, alloc, text, &checked, script_text, settings);

@@ -1,4 +1,5 @@
 mod Decoding
 mod LineParts
+mod LineStarts
 mod Links
 mod CharactersOfUtf8

@@ -1,2 +1,3 @@
 pub mod Conditions
 pub mod Positions
+pub mod RefusedTexts

@@ -1,5 +1,7 @@
 -- Definition. Where an offset is in a text, and what stands there.
 --     line_number, column_number       as a user counts, from 1
+--     after_feeds, line_start          behind so many line feeds, or the end of the text; where the
+--                                      line with this number begins
 --     column_in_text                   the column, if the line is UTF-8 up to the offset
 --     before_in_line, from_in_line     the line, before the offset and from it on
 --     characters                       what counts as a column
@@ -9,7 +11,7 @@
 --                                      or `_` stands at the offset, and none of them before it
 --     MayBePosition text place         this is the line and column of such a name, with a comma behind
 --                                      it, or empty
-use Rattle.std.specs.Prelude.{◌≡◌, ◌⊎◌, ℕ, zero, suc, ◌+◌, ◌-◌, ◌==◌, Bool, false, not, ◌&&◌, IsTrue, Option, None, Some, List, [], ◌∷◌, ◌++◌, take, drop, length, count_by, slice_get, take_while, unwrap_or, codes, decimal}
+use Rattle.std.specs.Prelude.{◌≡◌, ◌⊎◌, ℕ, zero, suc, ◌+◌, ◌-◌, ◌==◌, Bool, cond, false, not, ◌&&◌, IsTrue, Option, None, Some, List, [], ◌∷◌, ◌++◌, take, drop, length, count_by, slice_get, take_while, unwrap_or, codes, decimal}
 use Rattle.std.specs.Char.{len_utf8}
 use Rattle.std.specs.List.{after_last, before_first}
 use Rattle.std.specs.Option.{option_map_or}
@@ -33,6 +35,15 @@ from_in_line text at = before_first is_line_feed (drop at text)
 -- one more than the number of line feeds before the offset
 abbrev pub line_number : (text : List ℕ) → ℕ → ℕ
 line_number text at = count_by is_line_feed (take at text) + 1
+
+abbrev pub after_feeds : (feeds : ℕ) → List ℕ → ℕ
+after_feeds zero text = 0
+after_feeds (suc feeds) [] = 0
+after_feeds (suc feeds) (b ∷ text) = suc (after_feeds (cond (is_line_feed b) feeds (suc feeds)) text)
+
+-- lines count from 1
+abbrev pub line_start : (text : List ℕ) → (number : ℕ) → ℕ
+line_start text number = after_feeds (number - 1) text
 
 -- ---- characters
 

@@ -1,9 +1,11 @@
 //! The conditions that are asked of runs, as terms.
-ghost use Rattle.std.specs.Prelude.{◌≡◌, List, IfOk};
+ghost use Rattle.std.specs.Prelude.{◌≡◌, List, IfErr, IfOk};
 ghost use Rattle.asm_state.specs.declared.operation.Op.{Op as Operation};
 ghost use Rattle.asm_syntax.specs.declared.term.Term.{Term as Code};
+ghost use Rattle.asm_syntax.specs.SourceTree.{Spec};
 ghost use Rattle.asm_syntax.specs.code.Views.{spec_of};
-ghost use Rattle.asm_explore_texts.specs.Conditions.{AreConditionsOf, IsConditionOf, IsJoined, MayBeConditionOf, text_of, texts_of};
+ghost use Rattle.asm_explore_texts.specs.Conditions.{AreConditionsOf, IsConditionError, IsConditionOf, IsJoined, MayBeConditionOf, text_of, texts_of};
+ghost use Rattle.asm_explore_texts.specs.RefusedTexts.{ExplainsText, IsConditionRefused, IsOneRefused, MayBeRefused};
 
 use crate::condition::{ConditionError, condition_term};
 use asm_check::Checked;
@@ -36,7 +38,10 @@ fn refused<'w>(
     alloc: Global,
     condition: &Condition<'w>,
     error: ConditionError,
-) -> Result<Fault<'w>, AllocError> {
+) -> Result<Fault<'w>, AllocError>
+    ensures { (spec : Spec) → IsConditionError spec condition.now.text.items error →
+        IfOk result (ExplainsText (IsConditionRefused spec condition.now)) }
+{
     let text = Vec::from_slice(alloc, condition.text.as_slice())?;
     Ok(Fault::Text(RefusedText {
         source: condition.source,
@@ -52,7 +57,8 @@ fn term_of<'w>(
     checked: &Checked,
     condition: &Condition<'w>,
 ) -> Result<Term, Fault<'w>>
-    ensures { IfOk result (IsConditionOf (spec_of checked.now.spec) condition.now.text.items) }
+    ensures found { IfOk result (IsConditionOf (spec_of checked.now.spec) condition.now.text.items) }
+    ensures refused { IfErr result (ExplainsText (IsConditionRefused (spec_of checked.now.spec) condition.now)) }
 {
     match condition_term(alloc, checked, condition.text.as_slice()) {
         Ok(term) => Ok(term),
@@ -67,7 +73,8 @@ pub fn optional_term<'w>(
     checked: &Checked,
     condition: &Option<Condition<'w>>,
 ) -> Result<Option<Term>, Fault<'w>>
-    ensures { IfOk result (MayBeConditionOf (spec_of checked.now.spec) (text_of condition.now)) }
+    ensures found { IfOk result (MayBeConditionOf (spec_of checked.now.spec) (text_of condition.now)) }
+    ensures refused { IfErr result (ExplainsText (MayBeRefused (spec_of checked.now.spec) condition.now)) }
 {
     match condition {
         Some(condition) => Ok(Some(term_of(alloc, checked, condition)?)),
@@ -81,7 +88,8 @@ pub fn links<'w>(
     checked: &Checked,
     conditions: &[Condition<'w>],
 ) -> Result<Vec<(Op, Term)>, Fault<'w>>
-    ensures { IfOk result (λ links. AreConditionsOf (spec_of checked.now.spec) (texts_of conditions.now) links.items) }
+    ensures found { IfOk result (λ links. AreConditionsOf (spec_of checked.now.spec) (texts_of conditions.now) links.items) }
+    ensures refused { IfErr result (ExplainsText (IsOneRefused (spec_of checked.now.spec) conditions.now)) }
 {
     let mut links = Vec::new(alloc);
     for k in 0..conditions.len() {

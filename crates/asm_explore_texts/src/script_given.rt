@@ -1,6 +1,8 @@
 //! The script that is given.
-ghost use Rattle.std.specs.Prelude.{IfOk};
-ghost use Rattle.asm_reader.specs.ScriptText.{IsScript};
+ghost use Rattle.std.specs.Prelude.{◌≡◌, IfErr, IfOk};
+ghost use Rattle.asm_reader.specs.ScriptText.{IsScript, IsScriptRefusal};
+ghost use Rattle.asm_explore_texts.specs.RefusedTexts.{ExplainsText, IsScriptRefused};
+ghost use Rattle.asm_explore_texts.specs.Positions.{line_start};
 
 use asm_explore_words::fault::{Fault, RefusedText, Source, TextError};
 use asm_explore_words::settings::RunSettings;
@@ -14,7 +16,8 @@ pub fn script_given<'w>(
     text: &[u8],
     settings: &RunSettings<'w>,
 ) -> Result<Script, Fault<'w>>
-    ensures { IfOk result (λ script. IsScript text.now script) }
+    ensures found { IfOk result (λ script. IsScript text.now script) }
+    ensures refused { IfErr result (ExplainsText (IsScriptRefused text.now settings.now)) }
 {
     match read_script(alloc, text) {
         Ok(script) => Ok(script),
@@ -29,7 +32,9 @@ fn refused<'w>(
     text: &[u8],
     settings: &RunSettings<'w>,
     error: ScriptError,
-) -> Result<Fault<'w>, AllocError> {
+) -> Result<Fault<'w>, AllocError>
+    ensures { IsScriptRefusal text.now error → IfOk result (ExplainsText (IsScriptRefused text.now settings.now)) }
+{
     let at = match error.line() {
         Some(number) => Some(start_of_line(text, number)),
         None => None,
@@ -44,7 +49,9 @@ fn refused<'w>(
 }
 
 /// Where the line with this number begins; lines count from 1.
-fn start_of_line(text: &[u8], number: usize) -> usize {
+fn start_of_line(text: &[u8], number: usize) -> usize
+    ensures { result ≡ line_start text.now number }
+{
     let mut before = number.saturating_sub(1);
     for at in 0..text.len() {
         if before == 0 {

@@ -1,4 +1,5 @@
 mod FilesInTurn
+mod GivenSources
 mod InputOnce
 pub mod NoFiles
 mod NoReports

@@ -1,11 +1,12 @@
 -- Definition. Why the program doesn't write what words ask for.
 --     status_of fault             the status that the program ends with
 --     IsOfFault status            it is one of these
---     IsOfReport fault            it may be why there is no report for words that are taken
+--     source_in fault             the source whose text can't be had, if that is why
+--     IsUnread Names fault        a text can't be had, whose source is one of these; or memory ran out
 --     fault_of_report, fault_of_no_words, fault_of_read
 --                                 the fault where there is no report, where words can't be had, and
 --                                 where the text from a source can't be
-use Rattle.std.specs.Prelude.{◌≤◌, ℕ, ⊤}
+use Rattle.std.specs.Prelude.{◌≤◌, ℕ, Option, Some, None, IfSome, ⊤}
 use Rattle.asm_explore_words.specs.declared.fault.Fault.{Fault}
 use Rattle.asm_explore_words.specs.declared.fault.Fault.TheVariants as report
 use Rattle.asm_explore_words.specs.declared.fault.Source.{Source}
@@ -30,11 +31,17 @@ status_of NotText = 4
 abbrev pub IsOfFault : ℕ → Type 0
 IsOfFault status = (2 ≤ status) × (status ≤ 4)
 
-abbrev pub IsOfReport : NoAnswer → Type 0
-IsOfReport (Words error) = ⊥
-IsOfReport NotText = ⊥
-IsOfReport Write = ⊥
-IsOfReport fault = ⊤
+abbrev pub source_in : NoAnswer → Option Source
+source_in (File source) = Some source
+source_in fault = None
+
+abbrev IsOfReading : NoAnswer → Type 0
+IsOfReading Memory = ⊤
+IsOfReading (File source) = ⊤
+IsOfReading fault = ⊥
+
+abbrev pub IsUnread : (Names : Source → Type 0) → NoAnswer → Type 0
+IsUnread Names fault = IfSome (source_in fault) Names × IsOfReading fault
 
 abbrev pub fault_of_report : Fault → NoAnswer
 fault_of_report (report.Text refused) = Text refused

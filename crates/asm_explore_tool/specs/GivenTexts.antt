@@ -8,20 +8,28 @@
 --                                              the texts of the specification's file and of the
 --                                              script's (one may be the input); a script that isn't
 --                                              named has no bytes
+--     IsAmongFiles names source                the source is one of these files, of a condition
+--     IsRead, IsReadForRun                     the source is one of those that are read for settings
 --     AreFronts contents names texts           the texts are those of the files with these names
 --     AreAlwaysGiven contents words names texts
 --                                              the texts are the words, and after them those of the
 --                                              files with these names
+--     word_sources, file_sources               the sources of so many conditions that words give, and
+--                                              of those in files with these names
 --     AreGiven contents settings conditions    the conditions are those that the settings give, and
---                                              those of the files that they name
+--                                              those of the files that they name; and so their sources
 --     AreRandomGiven contents settings conditions
 --                                              the same of the settings of `random`
-use Rattle.std.specs.Prelude.{◌≡◌, ℕ, List, [], ◌∷◌, ◌++◌, Option, Some, None, cond, option_map, codes, ⊤}
+use Rattle.std.specs.Prelude.{◌≡◌, ◌⊎◌, ℕ, zero, suc, List, [], ◌∷◌, ◌++◌, length, map, slice_get, Option, Some, None, IfSome, cond, option_map, codes, ⊤}
+use Rattle.std.specs.Borrow.{Bor}
 use Rattle.std.specs.Str.{bytes_eq}
 use Rattle.clap.specs.Walk.{Text, texts}
 use Rattle.asm_files.specs.Input.{IsFront, bytes_of}
 use Rattle.asm_explore_texts.specs.Conditions.{text_of, texts_of}
+use Rattle.asm_explore_texts.specs.declared.conditions.Condition.{Condition}
 use Rattle.asm_explore_texts.specs.declared.conditions.Conditions.{Conditions}
+use Rattle.asm_explore_words.specs.declared.fault.Source.{Source}
+use Rattle.asm_explore_words.specs.declared.fault.Source.TheVariants as source
 use Rattle.asm_explore_words.specs.declared.settings.RandomSettings.{RandomSettings}
 use Rattle.asm_explore_words.specs.declared.settings.RunSettings.{RunSettings}
 use Rattle.asm_explore_words.specs.declared.settings.Settings.{Settings}
@@ -32,6 +40,30 @@ max_bytes_read = 1_048_577
 
 abbrev pub file_of : Text → Option Text
 file_of name = cond (bytes_eq name (codes "-")) None (Some name)
+
+-- ---- sources
+
+abbrev pub IsAmongFiles : List (Bor Text) → Source → Type 0
+IsAmongFiles names s = (k : ℕ) × (name : Bor Text) × (slice_get names k ≡ Some name) × (s ≡ source.AlwaysFile name)
+
+-- for settings with this file of the specification, and these files of conditions
+abbrev pub IsRead : (spec : Bor Text) → List (Bor Text) → Source → Type 0
+IsRead spec names s = (s ≡ source.Specification spec) ⊎ IsAmongFiles names s
+
+abbrev pub IsReadForRun : RunSettings → Source → Type 0
+IsReadForRun settings s = (s ≡ source.Specification settings.spec) ⊎ ((name : Bor Text) × (settings.script ≡ Some name) × (s ≡ source.Script name))
+
+abbrev pub word_sources : (count : ℕ) → List Source
+word_sources zero = []
+word_sources (suc count) = word_sources count ++ source.Always (suc count) ∷ []
+
+abbrev pub file_sources : List (Bor Text) → List Source
+file_sources names = map (λ name. source.AlwaysFile name) names
+
+abbrev pub sources_of : List Condition → List Source
+sources_of cs = map (λ c. c.source) cs
+
+-- ---- texts
 
 module _ (contents : Text → Option (List ℕ)) where
   abbrev pub IsText : (input : Option (List ℕ)) → Text → List ℕ → Type 0
@@ -60,11 +92,16 @@ module _ (contents : Text → Option (List ℕ)) where
     pub all : asked ≡ words ++ files
 
   pub record AreGiven (settings : Settings) (conditions : Conditions) : Type 0 where
+    pub sources : sources_of conditions.always.items ≡ word_sources (length settings.always.items) ++ file_sources settings.always_files.items
+    pub quiet_source : IfSome conditions.when_quiet (λ c. c.source ≡ source.DeadlockUnless)
+    pub within_source : IfSome conditions.within (λ c. c.source ≡ source.Within)
     pub always : AreAlwaysGiven (texts settings.always.items) (texts settings.always_files.items) (texts_of conditions.always.items)
     pub when_quiet : text_of conditions.when_quiet ≡ option_map (λ text. text.now) settings.when_quiet
     pub within : text_of conditions.within ≡ option_map (λ text. text.now) settings.within
 
   pub record AreRandomGiven (settings : RandomSettings) (conditions : Conditions) : Type 0 where
+    pub sources : sources_of conditions.always.items ≡ word_sources (length settings.always.items) ++ file_sources settings.always_files.items
+    pub quiet_source : IfSome conditions.when_quiet (λ c. c.source ≡ source.DeadlockUnless)
     pub always : AreAlwaysGiven (texts settings.always.items) (texts settings.always_files.items) (texts_of conditions.always.items)
     pub when_quiet : text_of conditions.when_quiet ≡ option_map (λ text. text.now) settings.when_quiet
     pub within : conditions.within ≡ None

@@ -11,13 +11,15 @@
 --     IsHelp                      words are refused, and ask for help or for the version: some text
 --                                 is written
 --     IsAnswer                    one of the two; help makes no file
---     LeavesFilesOfAll            without a report for settings of `all`: no file is made, or those
---                                 that they ask for are begun
---     LeavesFilesOf               the same for a command with its settings; the other commands make
---                                 no file
---     IsWithoutReport             words that are taken have no report: nothing is written, and the
---                                 files are left so
---     HasNoReport                 the fault for which they have none; or the output failed, and a
+--     IsFaultOfAll, IsFaultOfRandom, IsFaultOfRun
+--                                 the fault for which there is no report for settings of `all`, of
+--                                 `random`, of one run, of the texts that are read for them; and
+--                                 what is made of the files of `all`
+--     ExplainsTask                a text can't be had, and no file is made; or it is such a fault. The
+--                                 other commands than `all` make no file
+--     IsWithoutReport             words that are taken have no report, by this fault: nothing is
+--                                 written
+--     IsUnwritten                 the fault for which they have none; or the output failed, and a
 --                                 front of the report is written, whose files are made
 --     AreRefused                  why words are refused, and what is written
 --     IsExplained                 one of the two says why the status is what it is; for refused words
@@ -27,17 +29,18 @@ use Rattle.std.specs.Io.KnownBytes.{Appends, Keeps}
 use Rattle.clap.specs.Kinds.{IsAmong, Kinds}
 use Rattle.clap.specs.Values.{kind_of}
 use Rattle.clap.specs.Walk.{Text}
-use Rattle.asm_explore_tool.specs.Faults.{status_of}
-use Rattle.asm_explore_tool.specs.GivenTexts.{AreGiven, AreRandomGiven, AreRunTexts, IsText}
+use Rattle.asm_explore_tool.specs.Faults.{IsUnread, fault_of_report, status_of}
+use Rattle.asm_explore_tool.specs.GivenTexts.{AreGiven, AreRandomGiven, AreRunTexts, IsRead, IsReadForRun, IsText}
 use Rattle.asm_explore_tool.specs.declared.no_answer.NoAnswer.{NoAnswer}
 use Rattle.asm_explore_tool.specs.declared.no_answer.NoAnswer.TheVariants as no_answer
-use Rattle.asm_explore_random.specs.RandomReport.{IsRandomReported}
-use Rattle.asm_explore_all.specs.AllReport.{AreBegunBy, IsReportedBy}
+use Rattle.asm_explore_random.specs.RandomReport.{ExplainsRandom, IsRandomReported}
+use Rattle.asm_explore_all.specs.AllReport.{ExplainsAll, IsReportedBy}
 use Rattle.asm_explore_all.specs.MadeFiles.{MadeFile, Makes}
-use Rattle.asm_explore_run.specs.RunReport.{AreChoicesReported, IsClashReported}
+use Rattle.asm_explore_run.specs.RunReport.{AreChoicesReported, ExplainsRun, IsClashReported}
 use Rattle.asm_explore_words.specs.WordsSaid.{AreSaidBehind, AskForHelp, task_refusals}
 use Rattle.asm_explore_texts.specs.declared.conditions.Conditions.{Conditions}
 use Rattle.asm_explore_report.specs.declared.report.Report.{Report}
+use Rattle.asm_explore_words.specs.declared.fault.Fault.{Fault}
 use Rattle.asm_explore_words.specs.declared.settings.RandomSettings.{RandomSettings}
 use Rattle.asm_explore_words.specs.declared.settings.RunSettings.{RunSettings}
 use Rattle.asm_explore_words.specs.declared.settings.Settings.{Settings}
@@ -79,17 +82,39 @@ module _ (contents : Text → Option (List ℕ)) (input : Option (List ℕ)) whe
 
   -- ---- without a report
 
-  abbrev pub LeavesFilesOfAll : (before after : Option (List MadeFile)) → Settings → Type 0
-  LeavesFilesOfAll before after settings =
-      Makes before after []
-      ⊎ ((text : List ℕ) × (conditions : Conditions) × IsText contents input settings.spec.now text × AreGiven contents settings conditions
-      × AreBegunBy text conditions settings before after)
+  pub record IsFaultOfAll (before after : Option (List MadeFile)) (settings : Settings) (fault : NoAnswer) : Type 0 where
+    pub text : List ℕ
+    pub is_text : IsText contents input settings.spec.now text
+    pub conditions : Conditions
+    pub given : AreGiven contents settings conditions
+    pub cause : Fault
+    pub is : fault ≡ fault_of_report cause
+    pub explained : ExplainsAll text conditions settings before after cause
 
-  abbrev pub LeavesFilesOf : (before after : Option (List MadeFile)) → Task → Type 0
-  LeavesFilesOf before after (All settings) = LeavesFilesOfAll before after settings
-  LeavesFilesOf before after (Random settings) = Makes before after []
-  LeavesFilesOf before after (Choices settings) = Makes before after []
-  LeavesFilesOf before after (Clash settings) = Makes before after []
+  pub record IsFaultOfRandom (settings : RandomSettings) (fault : NoAnswer) : Type 0 where
+    pub text : List ℕ
+    pub is_text : IsText contents input settings.spec.now text
+    pub conditions : Conditions
+    pub given : AreRandomGiven contents settings conditions
+    pub cause : Fault
+    pub is : fault ≡ fault_of_report cause
+    pub explained : ExplainsRandom text conditions settings cause
+
+  pub record IsFaultOfRun (settings : RunSettings) (fault : NoAnswer) : Type 0 where
+    pub text : List ℕ
+    pub script_text : List ℕ
+    pub are_texts : AreRunTexts contents input settings text script_text
+    pub cause : Fault
+    pub is : fault ≡ fault_of_report cause
+    pub explained : ExplainsRun text script_text settings cause
+
+  abbrev pub ExplainsTask : (before after : Option (List MadeFile)) → Task → NoAnswer → Type 0
+  ExplainsTask before after (All settings) fault =
+      (IsUnread (IsRead settings.spec settings.always_files.items) fault × Makes before after []) ⊎ IsFaultOfAll before after settings fault
+  ExplainsTask before after (Random settings) fault =
+      Makes before after [] × (IsUnread (IsRead settings.spec settings.always_files.items) fault ⊎ IsFaultOfRandom settings fault)
+  ExplainsTask before after (Choices settings) fault = Makes before after [] × (IsUnread (IsReadForRun settings) fault ⊎ IsFaultOfRun settings fault)
+  ExplainsTask before after (Clash settings) fault = Makes before after [] × (IsUnread (IsReadForRun settings) fault ⊎ IsFaultOfRun settings fault)
 
 -- some text is written, which the library that reads the words has for them
 abbrev pub IsHelp : (IsWritten : List ℕ → Type 0) → Kinds → Type 0
@@ -118,20 +143,20 @@ module _ (old new : Option (List ℕ)) (has_failed : Bool) where
   AreRefused kinds fault = ⊥
 
   module _ (contents : Text → Option (List ℕ)) (input : Option (List ℕ)) (before after : Option (List MadeFile)) (words : List Text) where
-    pub record IsWithoutReport : Type 0 where
+    pub record IsWithoutReport (fault : NoAnswer) : Type 0 where
       pub task : Task
       pub said : AreSaidBehind words task
-      pub left : LeavesFilesOf contents input before after task
+      pub explained : ExplainsTask contents input before after task fault
       pub kept : Keeps old new
 
-    abbrev pub HasNoReport : NoAnswer → Type 0
-    HasNoReport (no_answer.Words error) = ⊥
-    HasNoReport no_answer.NotText = ⊥
-    HasNoReport no_answer.Write = IsTrue has_failed × ((status : ℕ) × IsOutput contents input (AppendsUpTo old new) before after words status)
-    HasNoReport fault = IsWithoutReport
+    abbrev pub IsUnwritten : NoAnswer → Type 0
+    IsUnwritten (no_answer.Words error) = ⊥
+    IsUnwritten no_answer.NotText = ⊥
+    IsUnwritten no_answer.Write = IsTrue has_failed × ((status : ℕ) × IsOutput contents input (AppendsUpTo old new) before after words status)
+    IsUnwritten fault = IsWithoutReport fault
 
     abbrev pub Explains : NoAnswer → Type 0
-    Explains fault = ((task_refusals words ≡ []) × HasNoReport fault) ⊎ (Makes before after [] × AreRefused (task_refusals words) fault)
+    Explains fault = ((task_refusals words ≡ []) × IsUnwritten fault) ⊎ (Makes before after [] × AreRefused (task_refusals words) fault)
 
     pub record IsExplained (status : ℕ) : Type 0 where
       pub fault : NoAnswer

@@ -1,10 +1,11 @@
 //! What is read for settings: the text of the specification, and those of the conditions.
-ghost use Rattle.std.specs.Prelude.{◌≡◌, ◌++◌, List, ℕ, option_map, IfErr, IfOk};
+ghost use Rattle.std.specs.Prelude.{◌≡◌, ◌++◌, List, ℕ, length, option_map, IfErr, IfOk, IfSome};
 ghost use Rattle.clap.specs.Walk.{texts};
 ghost use Rattle.asm_explore_texts.specs.Conditions.{text_of, texts_of};
 ghost use Rattle.asm_files.specs.Input.{IsFront};
-ghost use Rattle.asm_explore_tool.specs.Faults.{IsOfReport};
-ghost use Rattle.asm_explore_tool.specs.GivenTexts.{AreAlwaysGiven, AreFronts, AreGiven, AreRandomGiven, IsText, max_bytes_read};
+ghost use Rattle.asm_explore_tool.specs.Faults.{IsUnread};
+ghost use Rattle.asm_explore_tool.specs.GivenTexts.{AreAlwaysGiven, AreFronts, AreGiven, AreRandomGiven, IsAmongFiles, IsText, file_sources, max_bytes_read, sources_of, word_sources};
+ghost use Rattle.asm_explore_words.specs.declared.fault.Source.TheVariants as sources;
 
 use crate::no_answer::NoAnswer;
 use asm_explore_texts::conditions::{Condition, Conditions};
@@ -28,7 +29,7 @@ pub(crate) fn text<'w, F: Folder, I: Read + Drop>(
     input: I,
 ) -> Result<Vec<u8>, NoAnswer<'w>>
     ensures text { IfOk result (λ text. IsText (F.contents folder.now) (I.remaining input) name.now text.items) }
-    ensures none { IfErr result IsOfReport }
+    ensures unread { IfErr result (IsUnread (λ s. s ≡ source.entry)) }
 {
     let file = if name == "-" { None } else { Some(name) };
     match input::text(folder, alloc, file, input, MAX_BYTES_READ) {
@@ -39,7 +40,8 @@ pub(crate) fn text<'w, F: Folder, I: Read + Drop>(
 
 /// A condition that a word gives.
 fn given<'w>(alloc: Global, source: Source<'w>, text: &str) -> Result<Condition<'w>, AllocError>
-    ensures { IfOk result (λ c. c.text.items ≡ text.now) }
+    ensures text { IfOk result (λ c. c.text.items ≡ text.now) }
+    ensures source { IfOk result (λ c. c.source ≡ source.entry) }
 {
     let text = Vec::from_slice(alloc, text.as_bytes())?;
     Ok(Condition { source, text })
@@ -51,7 +53,8 @@ fn maybe_given<'w>(
     source: Source<'w>,
     text: Option<&str>,
 ) -> Result<Option<Condition<'w>>, AllocError>
-    ensures { IfOk result (λ c. text_of c ≡ option_map (λ t. t.now) text.entry) }
+    ensures text { IfOk result (λ c. text_of c ≡ option_map (λ t. t.now) text.entry) }
+    ensures source { IfOk result (λ c. IfSome c (λ given. given.source ≡ source.entry)) }
 {
     match text {
         Some(text) => Ok(Some(given(alloc, source, text)?)),
@@ -61,7 +64,8 @@ fn maybe_given<'w>(
 
 /// The conditions that words give.
 fn from_words<'w>(alloc: Global, words: &[&'w str]) -> Result<Vec<Condition<'w>>, AllocError>
-    ensures { IfOk result (λ all. texts_of all.items ≡ texts words.now) }
+    ensures texts { IfOk result (λ all. texts_of all.items ≡ texts words.now) }
+    ensures sources { IfOk result (λ all. sources_of all.items ≡ word_sources (length words.now)) }
 {
     let mut all = Vec::new(alloc);
     for k in 0..words.len() {
@@ -77,7 +81,8 @@ fn from_file<'w, F: Folder>(
     name: &'w str,
 ) -> Result<Condition<'w>, NoAnswer<'w>>
     ensures text { IfOk result (λ c. IsFront (F.contents folder.now name.now) max_bytes_read c.text.items) }
-    ensures none { IfErr result IsOfReport }
+    ensures source { IfOk result (λ c. c.source ≡ sources.AlwaysFile name.entry) }
+    ensures unread { IfErr result (IsUnread (λ s. s ≡ sources.AlwaysFile name.entry)) }
 {
     let source = Source::AlwaysFile(name);
     match input::script(folder, alloc, Some(name), MAX_BYTES_READ) {
@@ -94,7 +99,8 @@ fn with_files<'w, F: Folder>(
     others: Vec<Condition<'w>>,
 ) -> Result<Vec<Condition<'w>>, NoAnswer<'w>>
     ensures files { IfOk result (λ all. (files : List (List ℕ)) × AreFronts (F.contents folder.now) (texts names.now) files × (texts_of all.items ≡ texts_of others.entry.items ++ files)) }
-    ensures none { IfErr result IsOfReport }
+    ensures sources { IfOk result (λ all. sources_of all.items ≡ sources_of others.entry.items ++ file_sources names.now) }
+    ensures unread { IfErr result (IsUnread (IsAmongFiles names.now)) }
 {
     let mut all = others;
     for k in 0..names.len() {
@@ -113,7 +119,8 @@ pub(crate) fn always_given<'w, F: Folder>(
     names: &[&'w str],
 ) -> Result<Vec<Condition<'w>>, NoAnswer<'w>>
     ensures given { IfOk result (λ all. AreAlwaysGiven (F.contents folder.now) (texts words.now) (texts names.now) (texts_of all.items)) }
-    ensures none { IfErr result IsOfReport }
+    ensures sources { IfOk result (λ all. sources_of all.items ≡ word_sources (length words.now) ++ file_sources names.now) }
+    ensures unread { IfErr result (IsUnread (IsAmongFiles names.now)) }
 {
     let first = from_words(alloc, words)?;
     let all = with_files(folder, alloc, names, first)?;
@@ -127,7 +134,7 @@ pub(crate) fn conditions<'w, F: Folder>(
     settings: &Settings<'w>,
 ) -> Result<Conditions<'w>, NoAnswer<'w>>
     ensures given { IfOk result (AreGiven (F.contents folder.now) settings.now) }
-    ensures none { IfErr result IsOfReport }
+    ensures unread { IfErr result (IsUnread (IsAmongFiles settings.now.always_files.items)) }
 {
     let words = settings.always.as_slice();
     let always = always_given(folder, alloc, words, settings.always_files.as_slice())?;
@@ -147,7 +154,7 @@ pub(crate) fn random_conditions<'w, F: Folder>(
     settings: &RandomSettings<'w>,
 ) -> Result<Conditions<'w>, NoAnswer<'w>>
     ensures given { IfOk result (AreRandomGiven (F.contents folder.now) settings.now) }
-    ensures none { IfErr result IsOfReport }
+    ensures unread { IfErr result (IsUnread (IsAmongFiles settings.now.always_files.items)) }
 {
     let names = settings.always_files.as_slice();
     let always = always_given(folder, alloc, settings.always.as_slice(), names)?;

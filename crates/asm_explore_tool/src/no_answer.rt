@@ -1,6 +1,6 @@
 //! Why the program doesn't write what words ask for.
 ghost use Rattle.std.specs.Prelude.{◌≡◌};
-ghost use Rattle.asm_explore_tool.specs.Faults.{IsOfReport, fault_of_no_words, fault_of_read, fault_of_report, status_of};
+ghost use Rattle.asm_explore_tool.specs.Faults.{IsUnread, fault_of_no_words, fault_of_read, fault_of_report, status_of};
 ghost use Rattle.asm_explore_tool.specs.declared.no_answer.NoAnswer.TheVariants as no_answer;
 
 use asm_explore_words::fault::{Fault, RefusedText, Source};
@@ -27,7 +27,8 @@ pub enum NoAnswer<'w> {
     Graph(&'w str),
     /// The script to the first quiet state can't be written to the file of this name.
     QuietScript(&'w str),
-    /// The run under the script that was found ends otherwise than it was found to.
+    /// A run that is to be shown ends otherwise than it was found to, or it is refused though its
+    /// texts are not.
     Unconfirmed,
 }
 
@@ -48,7 +49,7 @@ impl<'w> NoAnswer<'w> {
     /// Where the text from this source can't be had.
     pub(crate) fn of_read(source: Source<'w>, fault: ReadFault) -> NoAnswer<'w>
         ensures fault { result ≡ fault_of_read source.entry fault }
-        ensures none { IsOfReport result }
+        ensures unread { IsUnread (λ s. s ≡ source.entry) result }
     {
         match fault {
             ReadFault::Memory => NoAnswer::Memory,

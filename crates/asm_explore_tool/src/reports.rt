@@ -1,7 +1,9 @@
 //! The reports that words ask for.
-ghost use Rattle.std.specs.Prelude.{◌≡◌, false, IfOk, IfErr, OnErr};
-ghost use Rattle.asm_explore_tool.specs.Faults.{IsOfReport};
-ghost use Rattle.asm_explore_tool.specs.Outputs.{IsReportOf, IsReportOfAll, IsReportOfRandom, IsReportOfRun, LeavesFilesOf, LeavesFilesOfAll};
+ghost use Rattle.std.specs.Prelude.{◌≡◌, ◌⊎◌, [], false, IfOk, IfErr};
+ghost use Rattle.asm_explore_tool.specs.Faults.{IsUnread};
+ghost use Rattle.asm_explore_tool.specs.GivenTexts.{IsRead, IsReadForRun};
+ghost use Rattle.asm_explore_tool.specs.Outputs.{ExplainsTask, IsFaultOfAll, IsFaultOfRandom, IsFaultOfRun, IsReportOf, IsReportOfAll, IsReportOfRandom, IsReportOfRun};
+ghost use Rattle.asm_explore_all.specs.MadeFiles.{Makes};
 ghost use Rattle.asm_explore_run.specs.RunReport.{AreChoicesReported, IsClashReported};
 ghost use Rattle.asm_explore_words.specs.WordsSaid.{reads_input_twice, reads_task_twice};
 
@@ -38,8 +40,7 @@ pub(crate) fn report<'w, R: Threads + Clock + Sync, F: Folder + NewFiles, I: Rea
 ) -> Result<Report, NoAnswer<'w>>
     requires { reads_task_twice task.now ≡ false }
     ensures report { IfOk result (IsReportOf (F.contents folder.old) (I.remaining input) (F.made folder.old) (F.made folder.new) task.now) }
-    ensures none { IfErr result IsOfReport }
-    ensures left { OnErr result (LeavesFilesOf (F.contents folder.old) (I.remaining input) (F.made folder.old) (F.made folder.new) task.now) }
+    ensures explained { IfErr result (ExplainsTask (F.contents folder.old) (I.remaining input) (F.made folder.old) (F.made folder.new) task.now) }
 {
     match task {
         Task::All(settings) => {
@@ -65,7 +66,7 @@ fn report_of_choices<'w, R: Threads + Sync, F: Folder, I: Read + Drop>(
 ) -> Result<Report, NoAnswer<'w>>
     requires { reads_input_twice settings.now ≡ false }
     ensures report { IfOk result (IsReportOfRun (F.contents folder.now) (I.remaining input) AreChoicesReported settings.now) }
-    ensures none { IfErr result IsOfReport }
+    ensures explained { IfErr result (λ fault. IsUnread (IsReadForRun settings.now) fault ⊎ IsFaultOfRun (F.contents folder.now) (I.remaining input) settings.now fault) }
 {
     let texts = run_texts(folder, alloc, settings, input)?;
     let (text, script) = (texts.text.as_slice(), texts.script.as_slice());
@@ -83,7 +84,7 @@ fn report_of_clash<'w, R: Threads + Sync, F: Folder, I: Read + Drop>(
 ) -> Result<Report, NoAnswer<'w>>
     requires { reads_input_twice settings.now ≡ false }
     ensures report { IfOk result (IsReportOfRun (F.contents folder.now) (I.remaining input) IsClashReported settings.now) }
-    ensures none { IfErr result IsOfReport }
+    ensures explained { IfErr result (λ fault. IsUnread (IsReadForRun settings.now) fault ⊎ IsFaultOfRun (F.contents folder.now) (I.remaining input) settings.now fault) }
 {
     let texts = run_texts(folder, alloc, settings, input)?;
     let (text, script) = (texts.text.as_slice(), texts.script.as_slice());
@@ -102,8 +103,8 @@ fn report_of_all<'w, R: Threads + Sync, F: Folder + NewFiles, I: Read + Drop, W:
     watch: &mut W,
 ) -> Result<Report, NoAnswer<'w>>
     ensures report { IfOk result (IsReportOfAll (F.contents folder.old) (I.remaining input) (F.made folder.old) (F.made folder.new) settings.now) }
-    ensures none { IfErr result IsOfReport }
-    ensures left { OnErr result (LeavesFilesOfAll (F.contents folder.old) (I.remaining input) (F.made folder.old) (F.made folder.new) settings.now) }
+    ensures explained { IfErr result (λ fault. (IsUnread (IsRead settings.now.spec settings.now.always_files.items) fault × Makes (F.made folder.old) (F.made folder.new) [])
+        ⊎ IsFaultOfAll (F.contents folder.old) (I.remaining input) (F.made folder.old) (F.made folder.new) settings.now fault) }
 {
     let spec = settings.spec;
     let text = text(folder, alloc, Source::Specification(spec), spec, input)?;
@@ -123,7 +124,7 @@ fn report_of_random<'w, R: Threads + Sync, F: Folder, I: Read + Drop, W: Watch<R
     watch: &mut W,
 ) -> Result<Report, NoAnswer<'w>>
     ensures report { IfOk result (IsReportOfRandom (F.contents folder.now) (I.remaining input) settings.now) }
-    ensures none { IfErr result IsOfReport }
+    ensures explained { IfErr result (λ fault. IsUnread (IsRead settings.now.spec settings.now.always_files.items) fault ⊎ IsFaultOfRandom (F.contents folder.now) (I.remaining input) settings.now fault) }
 {
     let spec = settings.spec;
     let text = text(folder, alloc, Source::Specification(spec), spec, input)?;

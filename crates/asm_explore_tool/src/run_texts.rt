@@ -1,7 +1,7 @@
 //! What is read for one run: the texts of the specification and of the script.
 ghost use Rattle.std.specs.Prelude.{◌≡◌, false, IfErr, IfOk};
-ghost use Rattle.asm_explore_tool.specs.Faults.{IsOfReport};
-ghost use Rattle.asm_explore_tool.specs.GivenTexts.{AreRunTexts, IsTextOfFile};
+ghost use Rattle.asm_explore_tool.specs.Faults.{IsUnread};
+ghost use Rattle.asm_explore_tool.specs.GivenTexts.{AreRunTexts, IsReadForRun, IsTextOfFile};
 ghost use Rattle.asm_explore_words.specs.WordsSaid.{reads_input_twice};
 
 use crate::given_texts::{MAX_BYTES_READ, text as text_of};
@@ -28,7 +28,7 @@ fn from_file<'w, F: Folder>(
     source: Source<'w>,
 ) -> Result<Vec<u8>, NoAnswer<'w>>
     ensures text { IfOk result (λ text. IsTextOfFile (F.contents folder.now) name.now text.items) }
-    ensures none { IfErr result IsOfReport }
+    ensures unread { IfErr result (IsUnread (λ s. s ≡ source.entry)) }
 {
     match input::script(folder, alloc, Some(name), MAX_BYTES_READ) {
         Ok(text) => Ok(text),
@@ -45,7 +45,7 @@ pub(crate) fn run_texts<'w, F: Folder, I: Read + Drop>(
 ) -> Result<RunTexts, NoAnswer<'w>>
     requires { reads_input_twice settings.now ≡ false }
     ensures texts { IfOk result (λ texts. AreRunTexts (F.contents folder.now) (I.remaining input) settings.now texts.text.items texts.script.items) }
-    ensures none { IfErr result IsOfReport }
+    ensures unread { IfErr result (IsUnread (IsReadForRun settings.now)) }
 {
     let spec = settings.spec;
     match settings.script {

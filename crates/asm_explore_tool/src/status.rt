@@ -48,8 +48,9 @@ pub fn status<
         IsAnswer (F.contents folder.old) (I.remaining input) (Appends (O.bytes out.old) (O.bytes out.new)) (F.made folder.old) (F.made folder.new) (map S.text words.entry.now) result }
     ensures finished { ¬ (IsOfFault result) → IsTrue (O.is_finished out.new) }
     ensures quiet { task_refusals (map S.text words.entry.now) ≢ [] → result ≡ 0 → Keeps (E.bytes err.old) (E.bytes err.new) }
-    // 2 to 4: a fault with this status says why. Nothing is written then, or a front of it if the
-    // output failed. No file is made, unless all runs were looked at: then its files may be begun.
+    // 2 to 4: a fault with this status says why; 2: which text is refused, and for what. Nothing is
+    // written then, or a front of it if the output failed. No file is made, but by `all`: once runs
+    // were looked at, its files may be, up to one that can't be written, or all if the output failed.
     ensures explained { IsOfFault result →
         IsExplained (O.bytes out.old) (O.bytes out.new) (O.has_failed out.new) (F.contents folder.old) (I.remaining input) (F.made folder.old) (F.made folder.new) (map S.text words.entry.now) result }
 {

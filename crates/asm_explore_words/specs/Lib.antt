@@ -1,3 +1,4 @@
 pub mod CommandLine
+pub mod UnshownRuns
 pub mod WordsSaid
 pub mod code

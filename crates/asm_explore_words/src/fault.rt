@@ -1,6 +1,8 @@
 //! What is wrong with a text, and why there is no report.
 ghost use Rattle.std.specs.Prelude.{◌≡◌};
+ghost use Rattle.asm_explore_words.specs.UnshownRuns.{fault_of_unshown};
 ghost use Rattle.asm_explore_words.specs.declared.fault.Fault.TheVariants.{Memory};
+ghost use Rattle.asm_explore_words.specs.declared.fault.Unshown.TheVariants as unshown;
 
 use asm_check::CheckError;
 use asm_reader::{ReadError, ScriptError};
@@ -58,8 +60,45 @@ pub enum Fault<'w> {
     Graph(&'w str),
     /// The script to the first quiet state can't be written to the file of this name.
     QuietScript(&'w str),
-    /// The run under the script that was found ends otherwise than it was found to.
+    /// A run that is to be shown ends otherwise than it was found to, or it is refused though its
+    /// texts are not.
     Unconfirmed,
+}
+
+/// Why a run can't be shown.
+#[derive(Clone, Copy, Debug, PartialEq, Eq)]
+pub enum Unshown {
+    /// Memory ran out.
+    Memory,
+    /// The run ends otherwise than it was found to, or it is refused though its texts are not.
+    Unconfirmed,
+}
+
+impl From<AllocError> for Unshown {
+    ghost from_gives = { λ _ made. made ≡ unshown.Memory };
+
+    fn from(_error: AllocError) -> Unshown {
+        Unshown::Memory
+    }
+}
+
+impl<T: Drop> From<AllocFailed<T>> for Unshown {
+    ghost from_gives = { λ _ made. made ≡ unshown.Memory };
+
+    fn from(_error: AllocFailed<T>) -> Unshown {
+        Unshown::Memory
+    }
+}
+
+impl<'w> From<Unshown> for Fault<'w> {
+    ghost from_gives = { λ why fault. fault ≡ fault_of_unshown why };
+
+    fn from(unshown: Unshown) -> Fault<'w> {
+        match unshown {
+            Unshown::Memory => Fault::Memory,
+            Unshown::Unconfirmed => Fault::Unconfirmed,
+        }
+    }
 }
 
 impl<'w> From<AllocError> for Fault<'w> {

@@ -90,7 +90,8 @@ derived function without parameters. If it begins with a minus, write an equals 
 
 Runs are made until one has a fault. At each choose a candidate is drawn, each as likely as another.
 The same command line finds the same on every machine; another --seed draws other runs. Where a step
-changes nothing, all its outcomes are looked at, to see whether that is a deadlock.
+changes nothing, and a run may not rest, all outcomes of the step are looked at, to see whether that
+is a deadlock.
 
 The output is a script: each line is `STEP PATH NUMBER`, or a comment, which begins with `# `. The
 first line says what was found:

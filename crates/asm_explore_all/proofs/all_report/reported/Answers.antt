@@ -1,32 +1,39 @@
 use Rattle.std.proofs.Common.{◌++◌, inl}
 use Rattle.std.specs.Prelude.{option_map}
+use Rattle.std.proofs.lemmas.Result.{err_from_is_err_and}
 use Rattle.asm_explore_all.specs.AllFacts.{quiet_files}
 use Rattle.asm_explore_all.specs.CheckedQuestions.{IsExplored}
 use Rattle.asm_explore_all.specs.code.GraphFiles.{graph_lines}
 use Rattle.asm_explore_all.proofs.GrowingFiles.{makes_both, makes_none}
-use Rattle.asm_explore_all.proofs.LeftFiles.{files_of, on_err, left_behind, left_by_graph, left_by_script}
+use Rattle.asm_explore_all.proofs.LeftFiles.{files_of, of_graph, of_printing, of_script}
 use Rattle.asm_explore_all.proofs.all_report.reported.Goals as goal
 
-pub returns-in_err-answered-clause-left : goal.returns-in_err-answered-clause-left
-returns-in_err-answered-clause-left g c =
-    on_err c.from_residual.result _ (inl (makes_none _))
+pub returns-in_err-answered-clause-explained : goal.returns-in_err-answered-clause-explained
+returns-in_err-answered-clause-explained g c =
+    let p = err_from_is_err_and c.from_residual.result c.from_residual.ensures.1 in
+    rw (p.1, p.2) (inl (makes_none _))
 
-pub returns-in_err-drawing-clause-left : goal.returns-in_err-drawing-clause-left
-returns-in_err-drawing-clause-left g c =
+pub returns-in_err-drawing-clause-explained : goal.returns-in_err-drawing-clause-explained
+returns-in_err-drawing-clause-explained g c =
     let explored : IsExplored c.args.text.now c.args.conditions.now c.args.settings.now c.in_ok-answered.answered = record { asked = c.args.asked.now; is_asked = c.requires.asked; claims = c.in_ok-answered.ensures } in
-    on_err c.from_residual-in_err-drawing.result _ (left_by_graph c.args.text.now c.args.conditions.now c.args.settings.now c.in_ok-answered.answered explored _ _ c.in_err-drawing.ensures.begun)
+    let p = err_from_is_err_and c.from_residual-in_err-drawing.result c.from_residual-in_err-drawing.ensures.1 in
+    rw (p.1, p.2) (of_graph c.args.text.now c.args.conditions.now c.args.settings.now c.in_ok-answered.answered explored _ _ c.in_err-drawing.field-0.0 c.in_err-drawing.ensures.explained)
 
-pub returns-in_err-write_script-clause-left : goal.returns-in_err-write_script-clause-left
-returns-in_err-write_script-clause-left g c =
-    let explored : IsExplored c.args.text.now c.args.conditions.now c.args.settings.now c.in_ok-answered.answered = record { asked = c.args.asked.now; is_asked = c.requires.asked; claims = c.in_ok-answered.ensures } in
-    let drawn = c.in_ok-drawing.ensures.drawn in
-    on_err c.from_residual-in_err-write_script.result _ (left_by_script c.args.text.now c.args.conditions.now c.args.settings.now c.in_ok-answered.answered explored _ _ _ (graph_lines c.in_ok-drawing.drawing) drawn.0 drawn.2 drawn.1 c.in_err-write_script.ensures.begun)
-
-pub returns-in_err-text-clause-left : goal.returns-in_err-text-clause-left
-returns-in_err-text-clause-left g c =
+pub returns-in_err-write_script-clause-explained : goal.returns-in_err-write_script-clause-explained
+returns-in_err-write_script-clause-explained g c =
     let explored : IsExplored c.args.text.now c.args.conditions.now c.args.settings.now c.in_ok-answered.answered = record { asked = c.args.asked.now; is_asked = c.requires.asked; claims = c.in_ok-answered.ensures } in
     let drawn = c.in_ok-drawing.ensures.drawn in
-    on_err c.from_residual-in_err-text.result _ (left_behind c.args.text.now c.args.conditions.now c.args.settings.now c.in_ok-answered.answered explored _ _ _ (graph_lines c.in_ok-drawing.drawing) drawn.0 drawn.2 drawn.1 c.in_ok-write_script.ensures.made)
+    let p = err_from_is_err_and c.from_residual-in_err-write_script.result c.from_residual-in_err-write_script.ensures.1 in
+    rw (p.1, p.2) (of_script c.args.text.now c.args.conditions.now c.args.settings.now c.in_ok-answered.answered explored _ _ _ (graph_lines c.in_ok-drawing.drawing) drawn.0 drawn.2 drawn.1
+    c.in_err-write_script.field-0.0 c.in_err-write_script.ensures.explained)
+
+pub returns-in_err-text-clause-explained : goal.returns-in_err-text-clause-explained
+returns-in_err-text-clause-explained g c =
+    let explored : IsExplored c.args.text.now c.args.conditions.now c.args.settings.now c.in_ok-answered.answered = record { asked = c.args.asked.now; is_asked = c.requires.asked; claims = c.in_ok-answered.ensures } in
+    let drawn = c.in_ok-drawing.ensures.drawn in
+    let p = err_from_is_err_and c.from_residual-in_err-text.result c.from_residual-in_err-text.ensures.1 in
+    rw (p.1, p.2) (of_printing c.args.text.now c.args.conditions.now c.args.settings.now c.in_ok-answered.answered explored _ _ _ (graph_lines c.in_ok-drawing.drawing) drawn.0 drawn.2 drawn.1
+    c.in_err-text.field-0.0 c.in_ok-write_script.ensures.made)
 
 pub returns-clause-reported : goal.returns-clause-reported
 returns-clause-reported g c =

@@ -2,8 +2,9 @@ use Rattle.std.proofs.Common.{[], ◌∷◌, ℕ, List, Option, inl, inr, refl, 
 use Rattle.std.specs.Borrow.{Bor}
 use Rattle.std.specs.Prelude.{IfNone, IfSome, option_map}
 use Rattle.std.specs.String.{string_bytes}
-use Rattle.asm_explore_all.specs.AllFacts.{HasTooMany, IsBegun, IsDrawn, IsGraphText, graph_note}
-use Rattle.asm_explore_all.specs.MadeFiles.{Begins, MadeFile, Makes}
+use Rattle.asm_explore_words.specs.declared.fault.Fault.TheVariants.{Graph}
+use Rattle.asm_explore_all.specs.AllFacts.{ExplainsDrawing, HasTooMany, IsDrawn, IsGraphText, graph_note}
+use Rattle.asm_explore_all.specs.MadeFiles.{MadeFile, Makes, StopsAt}
 use Rattle.asm_explore_all.proofs.GrowingFiles.{makes_none}
 use Rattle.asm_explore_all.proofs.graph_file.draw.Goals as goal
 
@@ -28,8 +29,8 @@ returns-in-Ok-clause-drawn g c =
       subst (λ (file : Option (Bor (List ℕ))). IsDrawn asked (option_map (λ name. name.now) file) [] made) (sym c.in-Some.is) (inl (text, drawn, refl, refl)),
     )
 
-pub returns-clause-begun : goal.returns-clause-begun
-returns-clause-begun g c =
+pub returns-clause-explained : goal.returns-clause-explained
+returns-clause-explained g c =
     let asked = c.args.asked.now in
     let name = c.in-Some.name.now in
     let text = string_bytes c.in-Some-2.text in
@@ -37,5 +38,6 @@ returns-clause-begun g c =
     let new = g.F.NewFiles.made c.make.new.self in
     let drawn = subst (λ o. IfSome o (λ dot. IsGraphText asked (string_bytes dot))) c.in-Some-2.is c.in_ok-text.ensures.few in
     let made : List MadeFile = (name, text) ∷ [] in
-    let begins = subst (λ (bytes : List ℕ). Begins old new ((name, bytes) ∷ [])) c.as_bytes.ensures.value c.in-Err.ensures.begun in
-    subst (λ (file : Option (Bor (List ℕ))). IsBegun asked (option_map (λ name. name.now) file) old new) (sym c.in-Some.is) (inr ([], made, inl (text, drawn, refl, refl), begins))
+    let stops = subst (λ (bytes : List ℕ). StopsAt old new name ((name, bytes) ∷ [])) c.as_bytes.ensures.value c.in-Err.ensures.stopped in
+    subst (λ (file : Option (Bor (List ℕ))). ExplainsDrawing asked (option_map (λ n. n.now) file) old new (Graph c.in-Some.name)) (sym c.in-Some.is)
+    (refl, ([], made, inl (text, drawn, refl, refl), stops))

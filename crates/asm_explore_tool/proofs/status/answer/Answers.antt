@@ -47,6 +47,6 @@ returns-in_err-report-in-Ok-clause-explained g c =
     let contents = g.F.Folder.contents c.args.folder.now in
     let old = g.F.NewFiles.made c.args.folder.now in
     let new = g.F.NewFiles.made c.report.new.folder in
-    let why = why_none known known (g.O.Sink.has_failed c.args.out.now) contents (g.I.Read.remaining c.args.input) old new (map g.S.AsStr.text c.args.words.now)
-    c.in_err-report-in-Ok.field-0.0 c.in_err-report-in-Ok.ensures.none (record { task = c.in-Ok.task; said = c.in-Ok.ensures.said; left = c.in_err-report-in-Ok.ensures.left; kept = kept_alike known }) in
+    let why = why_none contents (g.I.Read.remaining c.args.input) old new known known (g.O.Sink.has_failed c.args.out.now) (map g.S.AsStr.text c.args.words.now)
+    c.in_err-report-in-Ok.field-0.0 (record { task = c.in-Ok.task; said = c.in-Ok.ensures.said; explained = c.in_err-report-in-Ok.ensures.explained; kept = kept_alike known }) in
     rw (p.1, p.2) (inl (c.in-Ok.ensures.taken, why))
