@@ -1,9 +1,11 @@
 pub mod CallsAndUses
 pub mod Cases
 pub mod Stories
+pub mod StoriesAlike
 pub mod TermCases
 pub mod Weights
 pub mod Run
+pub mod LongerRuns
 pub mod ViewedLocations
 pub mod FiredViews
 pub mod MeantDeclarations

@@ -10,6 +10,7 @@ pub mod Cases
 pub mod StoryLaws
 pub mod TermCases
 pub mod Run
+pub mod RunLaws
 pub mod Declarations
 pub mod Targets
 pub mod Taken

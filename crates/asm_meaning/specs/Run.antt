@@ -6,6 +6,12 @@
 --     run_from program turns main script n i A              what they do under a script
 --     IsRun, run                                            the same of a specification: step 1 is
 --                                                           done in its initial state
+--     step specification turns script i A                   what the step with number i yields from
+--                                                           the state A under a script
+--     IsStep specification turns script i A B               it yields a consistent set, which leads
+--                                                           to the state B
+--     IsAfter specification turns script n A                the run of n steps comes to its limit,
+--                                                           in the state A
 --     ScriptedRuns, FreeRuns      each run under a script is a run for some choices, and each run
 --                                 for some choices is one under some script
 use Rattle.std.specs.Prelude.{◌≡◌, ℕ, zero, suc, cond, List, [], ◌∷◌, map}
@@ -80,6 +86,19 @@ IsRun specification turns limit sets end last =
 abbrev pub run : Specification → (turns : ℕ) → Script → (limit : ℕ) → Run
 run specification turns script limit =
     run_from specification.program turns specification.main script limit 1 specification.initial
+
+-- ---- a step by itself
+
+abbrev pub step : Specification → (turns : ℕ) → Script → ℕ → State → Outcome
+step specification turns script i A = does specification.program turns script i A nothing_bound [] specification.main
+
+abbrev pub IsStep : Specification → (turns : ℕ) → Script → ℕ → (A B : State) → Type 0
+IsStep specification turns script i A B = (U : UpdateSet) × ((step specification turns script i A).result ≡ Gives U) × IsConsistent U × (B ≡ fire A U)
+
+abbrev pub IsAfter : Specification → (turns : ℕ) → Script → ℕ → State → Type 0
+IsAfter specification turns script n A = ((run specification turns script n).end ≡ AtLimit) × ((run specification turns script n).last ≡ A)
+
+-- ---- runs under scripts, and for any choices
 
 abbrev pub ScriptedRuns : Type 0
 ScriptedRuns =

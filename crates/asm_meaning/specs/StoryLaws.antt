@@ -1,8 +1,11 @@
--- Law. What stories yield, and the story of a rule by cases, one for each kind.
+-- Law. What stories yield, the story of a rule by cases, one for each kind, and under other
+-- scripts.
 --     AreToldOutcomes     the story of a rule yields what the rule does
 --     StoryLaws           what is told of parts, elements, candidates and turns yields what they do
 --     ToldCases           the story of a rule, by those of its parts, if ranks fall with each call
-use Rattle.std.specs.Prelude.{◌≡◌, ◌<◌, ℕ, Bool, cond, List, [], ◌∷◌, map, Option, Some}
+--     PicksAs chosen s    at the path of each choice of s its candidate is picked
+--     AreToldAlike        who picks as the story of a rule says has the rule tell just that story
+use Rattle.std.specs.Prelude.{◌≡◌, ◌<◌, ◌%◌, ℕ, Bool, cond, List, [], ◌∷◌, length, map, Option, Some}
 use Rattle.asm_state.specs.Location.{Location, State}
 use Rattle.asm_state.specs.declared.value.Value.{Value}
 use Rattle.asm_syntax.specs.Tree.{Name, Term, Terms, Rule, Skip, Assign, Call, Par, Seq, If, Let, Forall, Choose, Iterate, Rules, no_rules, rule_then}
@@ -13,7 +16,7 @@ use Rattle.asm_meaning.specs.Value.{value, holds, candidates, universe, nesting}
 use Rattle.asm_meaning.specs.Yields.{Path, at, Gives}
 use Rattle.asm_meaning.specs.Does.{Meaning, parts, in_order, each, one_of, turns_of, does}
 use Rattle.asm_meaning.specs.Ranks.{IsRanked}
-use Rattle.asm_meaning.specs.Story.{Story, Silent, Telling, outcome_of, target_tells, parts_tell, order_tells, each_tells, one_tells, turns_tell, tells}
+use Rattle.asm_meaning.specs.Story.{Story, Silent, Assigns, Chooses, Instance, Beside, Then, Exhausts, Telling, outcome_of, target_tells, parts_tell, order_tells, each_tells, one_tells, turns_tell, tells}
 
 abbrev pub AreToldOutcomes : Type 0
 AreToldOutcomes = (program : Program) (turns : ℕ) (script : Script) (step : ℕ) (A : State) (e : Environment) (p : Path) (R : Rule)
@@ -68,3 +71,18 @@ pub record ToldCases (program : Program) (turns : ℕ) (script : Script) (step :
 abbrev pub ToldByCases : Type 0
 ToldByCases =
     (program : Program) (rank : Name → ℕ) (turns : ℕ) (script : Script) (step : ℕ) → IsRanked program rank → ToldCases program turns script step rank
+
+-- ---- the story under other scripts
+
+abbrev pub PicksAs : (Path → ℕ) → Story → Type 0
+PicksAs chosen Silent = Unit {0}
+PicksAs chosen (Assigns p l v) = Unit {0}
+PicksAs chosen (Chooses p k vs s) = (chosen p % length vs ≡ k % length vs) × PicksAs chosen s
+PicksAs chosen (Instance s) = PicksAs chosen s
+PicksAs chosen (Beside s t) = PicksAs chosen s × PicksAs chosen t
+PicksAs chosen (Then s t) = PicksAs chosen s × PicksAs chosen t
+PicksAs chosen (Exhausts p) = Unit {0}
+
+abbrev pub AreToldAlike : Type 0
+AreToldAlike = (program : Program) (turns : ℕ) (script other : Script) (step later : ℕ) (A : State) (e : Environment) (p : Path) (R : Rule)
+    → PicksAs (pick other later) (tells program turns script step A e p R) → tells program turns other later A e p R ≡ tells program turns script step A e p R

@@ -47,12 +47,13 @@ ghost use Rattle.asm_meaning.specs.code.NestedPaths.{Within, Behind, Nests, AllN
 ghost use Rattle.asm_meaning.specs.Program.{Program, Environment, Controlled, Derived, NamedRule, bound_to, declared};
 ghost use Rattle.asm_meaning.specs.code.PartSets.{IsPartSet, ends_parts, ends_turns};
 ghost use Rattle.asm_meaning.specs.Ranks.{AreDerivedRanked, IsRanked};
-ghost use Rattle.asm_meaning.specs.Run.{ScriptedRuns, FreeRuns};
+ghost use Rattle.asm_meaning.specs.Run.{FreeRuns, ScriptedRuns, Specification};
 ghost use Rattle.asm_meaning.specs.Scripts.{UnrepeatedScript};
 ghost use Rattle.asm_meaning.specs.SpecificationLaw.{SpecificationsAreRanked, SpecificationRunsAreFree, SpecificationRunsHaveScripts};
 ghost use Rattle.asm_meaning.specs.code.BesideLaws.{BesideLaws, SplitLaws};
 ghost use Rattle.asm_meaning.specs.Story.{Silent, tells};
-ghost use Rattle.asm_meaning.specs.StoryLaws.{AreToldOutcomes, StoryLaws, ToldByCases};
+ghost use Rattle.asm_meaning.specs.RunLaws.{RunLaws};
+ghost use Rattle.asm_meaning.specs.StoryLaws.{AreToldAlike, AreToldOutcomes, StoryLaws, ToldByCases};
 ghost use Rattle.asm_meaning.specs.Taken.{taken, found_candidate};
 ghost use Rattle.asm_meaning.specs.Targets.{location_of};
 ghost use Rattle.asm_meaning.specs.TermCases.{ValuedByCases};
@@ -415,8 +416,20 @@ pub fn told_by_cases()
     ensures { ToldByCases }
 {}
 
+/// Who picks, at the path of each choice of a rule's story, the candidate that is taken there, has
+/// the rule tell just that story, whatever is picked elsewhere.
+pub fn told_alike()
+    ensures { AreToldAlike }
+{}
+
 /// A call of a name that stands for no rule tells nothing.
 pub fn untold_names()
     ensures { (spec : Spec) (turns : ℕ) (script : Script) (step : ℕ) (A : State) (e : Environment) (p : Path) (to : Option (Name × Terms)) (f : Name) (ts : Terms) (it : Option NameNumber) →
         it ≡ named spec f → rule_number it ≡ None → Silent ≡ tells (program_of spec) turns script step A e p (Call to f ts) }
+{}
+
+/// After one step more a run is in the state that this step leads to. A step that is exhausted, or
+/// whose set is faulty, ends each run of more steps.
+pub fn run_laws()
+    ensures { (specification : Specification) (turns : ℕ) (script : Script) → RunLaws specification turns script }
 {}
