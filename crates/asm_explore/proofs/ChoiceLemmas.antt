@@ -1,5 +1,4 @@
 -- Free. The choices that rules and runs make.
-pub mod AskedMade
 pub mod AskedOrder
 pub mod AskedParts
 pub mod AskedWorks
@@ -8,12 +7,13 @@ pub mod ChoicesCarried
 pub mod ChoicesMade
 pub mod ChosenTexts
 pub mod DifferentChoices
-pub mod MadeAlike
 pub mod MadeChoices
 pub mod MadeInOrder
 pub mod MadePlaces
 pub mod MadeRules
+pub mod MainStories
 pub mod NothingChosen
 pub mod OpenedAsks
 pub mod RunSteps
 pub mod SameRun
+pub mod TakenStories

@@ -13,7 +13,7 @@ use Rattle.asm_explore.specs.declared.outcomes.outcomes_error.RuleOverLimit.{Rul
 use Rattle.asm_explore.specs.code.ChoicesMade.{made_in}
 use Rattle.asm_explore.specs.code.MainRule.{IsMainOverLimit}
 use Rattle.asm_explore.specs.code.StepOutcomes.{IsOverLimitOf}
-use Rattle.asm_explore.proofs.ChoiceLemmas.AskedMade.{made_of_main}
+use Rattle.asm_explore.proofs.ChoiceLemmas.MainStories.{made_of_main}
 
 pub over_limit : (checked : Checked) (turns limit : ℕ) (P : RuleCode) → (let s = spec_of checked.spec in resolved_rule_in s [] (main_rule s (inits s)) P) → (A : State) (crowd : RuleOverLimit)
     → IsOverLimitOf (made_in (shape_of (spec_of checked.spec)) turns P) limit A crowd → IsMainOverLimit checked turns limit A crowd

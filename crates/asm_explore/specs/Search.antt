@@ -19,13 +19,11 @@
 --     Covers                  states by the depth up to which they are known: they are right, and
 --                             no step from one of them that is within has a fault, nor leads to a
 --                             state that isn't known one step deeper
-use Rattle.std.specs.Prelude.{◌≡◌, ◌⊎◌, ℕ, suc, ◌≤◌, ◌<◌, ◌-◌, Bool, true, false, []}
+use Rattle.std.specs.Prelude.{◌≡◌, ◌⊎◌, ℕ, suc, ◌≤◌, ◌<◌, ◌-◌, Bool, true, false}
 use Rattle.asm_state.specs.Location.{State}
 use Rattle.asm_state.specs.Updates.{UpdateSet, IsConsistent, fire}
 use Rattle.asm_reader.specs.ScriptLines.{Script}
-use Rattle.asm_meaning.specs.Does.{does}
-use Rattle.asm_meaning.specs.Program.{nothing_bound}
-use Rattle.asm_meaning.specs.Run.{Run, AtLimit, AtExhausted, AtFault, Specification, run}
+use Rattle.asm_meaning.specs.Run.{Run, AtLimit, AtExhausted, AtFault, Specification, run, step}
 use Rattle.asm_meaning.specs.Yields.{Path, Result, Gives}
 use Rattle.asm_explore.specs.declared.fault.Fault.{Fault}
 use Rattle.asm_explore.specs.declared.fault.Fault.TheVariants as fault
@@ -41,7 +39,7 @@ pub record LeadsOn (r : Result) (A : State) (known : State → Type 0) : Type 0 
 -- whatever is chosen, the step from the state changes nothing
 abbrev pub IsQuiet : Specification → (turns : ℕ) → State → Type 0
 IsQuiet specification turns A =
-    (script : Script) (step : ℕ) → LeadsOn (does specification.program turns script step A nothing_bound [] specification.main).result A (λ B. B ≡ A)
+    (script : Script) (i : ℕ) → LeadsOn (step specification turns script i A).result A (λ B. B ≡ A)
 
 abbrev pub IsDeadlock : Specification → (turns : ℕ) → (rests : State → Bool) → State → Type 0
 IsDeadlock specification turns rests A = IsQuiet specification turns A × (rests A ≡ false)
@@ -90,5 +88,5 @@ GoesWrongIn specification turns right rests script kind step =
 pub record Covers (specification : Specification) (turns : ℕ) (within : State → Bool) (ok : State → Type 0) (depth : ℕ) (known : ℕ → State → Type 0) : Type 0 where
   pub begins : known 0 specification.initial
   pub right : (d : ℕ) (A : State) → d ≤ depth → known d A → ok A
-  pub goes_on : (d : ℕ) (A : State) → d < depth → known d A → within A ≡ true → (script : Script) (step : ℕ)
-      → LeadsOn (does specification.program turns script step A nothing_bound [] specification.main).result A (known (suc d))
+  pub goes_on : (d : ℕ) (A : State) → d < depth → known d A → within A ≡ true → (script : Script) (i : ℕ)
+      → LeadsOn (step specification turns script i A).result A (known (suc d))

@@ -1,19 +1,18 @@
 //! Laws of what is listed, and of what is claimed.
 ghost use Rattle.std.specs.Prelude.{◌≡◌, ℕ, Bool, true, List, []};
 ghost use Rattle.asm_state.specs.Location.{State};
-ghost use Rattle.asm_state.specs.Signature.{Shape};
 ghost use Rattle.asm_reader.specs.code.ExactLines.{exactly};
 ghost use Rattle.asm_reader.specs.ScriptLines.{Line, Script, pick};
 ghost use Rattle.asm_syntax.specs.code.Views.{spec_of};
+ghost use Rattle.asm_syntax.specs.Tree.{Rule};
 ghost use Rattle.asm_check.specs.Faults.{inits};
 ghost use Rattle.asm_check.specs.Shapes.{shape_of};
 ghost use Rattle.asm_check.specs.declared.checked.Checked.{Checked};
 ghost use Rattle.asm_meaning.specs.Declarations.{main_rule, specification_of};
+ghost use Rattle.asm_meaning.specs.Program.{Environment, Program};
 ghost use Rattle.asm_meaning.specs.Run.{Specification};
 ghost use Rattle.asm_meaning.specs.Scripts.{IsUnrepeated};
-ghost use Rattle.asm_meaning.specs.Value.{Reading};
 ghost use Rattle.asm_meaning.specs.Yields.{Path};
-ghost use Rattle.asm_code.specs.code.RuleMeaning.{Locations};
 ghost use Rattle.asm_code.specs.code.RuleTree.{RuleCode};
 ghost use Rattle.asm_resolve.specs.code.RuleScopes.{resolved_rule_in};
 ghost use Rattle.asm_explore.specs.declared.exploration_result.ExplorationResult.{ExplorationResult};
@@ -21,14 +20,12 @@ ghost use Rattle.asm_explore.specs.declared.outcomes.listed_outcome.Choice.{Choi
 ghost use Rattle.asm_explore.specs.ExplorationResults.{IsExplorationResult};
 ghost use Rattle.asm_explore.specs.code.ListElements.{Each};
 ghost use Rattle.asm_explore.specs.declared.outcomes.outcomes_error.RuleOverLimit.{RuleOverLimit};
-ghost use Rattle.asm_explore.specs.code.ChoicesMade.{made, made_in};
+ghost use Rattle.asm_explore.specs.code.ChoicesMade.{made_in};
 ghost use Rattle.asm_explore.specs.code.MainRule.{IsMainOverLimit};
 ghost use Rattle.asm_explore.specs.code.StepOutcomes.{IsOverLimitOf};
 ghost use Rattle.asm_explore.specs.code.ChoicePaths.{HaveOwnPaths};
 ghost use Rattle.asm_explore.specs.code.ChoiceLaws.{ChoiceLaws};
-ghost use Rattle.asm_explore.specs.ChoicePoints.{choices_of};
 ghost use Rattle.asm_explore.specs.ChoicesMadeLaws.{MakingLaws};
-ghost use Rattle.asm_explore.specs.code.AskedRules.{asks};
 ghost use Rattle.asm_explore.specs.code.ReachedStates.{MakesAll};
 ghost use Rattle.asm_explore.specs.code.ScriptTo.{lines_of, needed};
 ghost use Rattle.asm_explore.specs.declared.scripts.script_line.Zeros.{Zeros};
@@ -78,18 +75,11 @@ pub fn same_rule_result()
         IsExplorationResult (specification_of s) turns (IsMainOverLimit checked turns outcomes) steps states also rested inside answer }
 {}
 
-/// A rule makes each of its choices at a path of its own, at or below that of the rule. Who chooses
-/// the same at these paths, whatever elsewhere, has the rule do the same, and make the same
-/// choices.
+/// A rule makes each of its choices at a path of its own, at or below that of the rule. Who takes
+/// the same at these paths, whatever elsewhere, has the rule tell the same story.
 pub fn making_laws()
-    ensures { (shape : Shape) (turns : ℕ) (chosen : Path → ℕ) (P : RuleCode) (rs : List Reading) (ls : Locations) (A : State) (p : Path) →
-        MakingLaws shape turns chosen P rs ls A p }
-{}
-
-/// The choices that a rule is asked for are those that it makes.
-pub fn asking_law()
-    ensures { (shape : Shape) (turns : ℕ) (chosen : Path → ℕ) (P : RuleCode) (rs : List Reading) (ls : Locations) (A : State) (p : Path) →
-        choices_of (asks shape turns chosen P rs ls A p) ≡ made shape turns chosen P rs ls A p }
+    ensures { (program : Program) (turns : ℕ) (script : Script) (step : ℕ) (A : State) (e : Environment) (p : Path) (R : Rule) →
+        MakingLaws program turns script step A e p R }
 {}
 
 /// If the code of the main rule has too many outcomes, the main rule has.

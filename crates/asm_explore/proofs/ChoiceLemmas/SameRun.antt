@@ -7,33 +7,25 @@
 --     choices_are         the choices of what is asked in each step
 use Rattle.std.proofs.Common.{◌++◌, ◌≡◌, ◌∙◌, ℕ, zero, suc, Bool, true, false, cond, List, [], ◌∷◌, length, map, refl, sym, ap, subst, append_assoc, append-nil}
 use Rattle.asm_state.specs.Location.{State}
-use Rattle.asm_state.specs.Signature.{Shape}
 use Rattle.asm_state.specs.Updates.{UpdateSet, is_consistent, fire}
-use Rattle.asm_syntax.specs.SourceTree.{Spec}
-use Rattle.asm_check.specs.Shapes.{shape_of}
 use Rattle.asm_reader.specs.code.ExactLines.{exactly}
-use Rattle.asm_reader.specs.ScriptLines.{Script, pick}
-use Rattle.asm_meaning.specs.Declarations.{specification_of}
+use Rattle.asm_reader.specs.ScriptLines.{Script}
 use Rattle.asm_meaning.specs.Does.{Outcome, does}
 use Rattle.asm_meaning.specs.Program.{nothing_bound}
 use Rattle.asm_meaning.specs.Run.{Run, Specification, run, run_from, step_and, fired, ended, AtFault}
+use Rattle.asm_meaning.specs.Story.{outcome_of, step_tells}
 use Rattle.asm_meaning.specs.Yields.{Result, Gives, Exhausted}
-use Rattle.asm_code.specs.code.RuleTree.{RuleCode}
-use Rattle.asm_resolve.specs.code.ResolvingLaws.{ResolvingLaws}
-use Rattle.asm_resolve.specs.code.RuleScopes.{resolved_rule_in}
+use Rattle.asm_meaning.proofs.Stories.{told_outcomes}
 use Rattle.asm_explore.specs.declared.outcomes.listed_outcome.Choice.{Choice}
-use Rattle.asm_explore.specs.ChoicePoints.{Asking, after_set, choices_of}
-use Rattle.asm_explore.specs.code.AskedRules.{asks_in}
-use Rattle.asm_explore.specs.code.OutcomeLists.{Situation, Each, AreTaken, picked}
-use Rattle.asm_explore.specs.code.ChoicesMade.{made_in}
+use Rattle.asm_explore.specs.ChoicePoints.{Asking, after_set, asked, choices_of}
+use Rattle.asm_explore.specs.code.OutcomeLists.{Situation, Each, AreTaken}
 use Rattle.asm_explore.specs.code.ChoicePaths.{HaveOwnPaths}
 use Rattle.asm_explore.specs.code.ReachedStates.{MakesAll, steps_from}
-use Rattle.asm_explore.specs.RunChoices.{of_run, from_step, lines_from, lines_forward, MakesTheRun}
+use Rattle.asm_explore.specs.RunChoices.{asked_from, chosen_from, of_run, from_step, lines_from, lines_forward, MakesTheRun}
 use Rattle.asm_explore.specs.code.ScriptTo.{lines_for, lines_of, needed}
-use Rattle.asm_explore.proofs.ChoiceLemmas.AskedMade.{made_asked}
 use Rattle.asm_explore.proofs.ScriptLemmas.ScriptToState.{lines_apart, lines_make, needed_make}
-use Rattle.asm_explore.proofs.ChoiceLemmas.MadeAlike.{rule_alike}
-use Rattle.asm_explore.proofs.ChoiceLemmas.MadePlaces.{rule_placed}
+use Rattle.asm_explore.proofs.ChoiceLemmas.MadePlaces.{told_placed}
+use Rattle.asm_explore.proofs.ChoiceLemmas.TakenStories.{told_again}
 
 -- ---- steps in the other order
 
@@ -83,10 +75,10 @@ module _ {X : Type 0} (P : X → Type 0) where
         let s : Situation = record { script = script; step = i } in
         (holds A s, after_each (steps_from specification turns A s) (λ U. from_step specification turns its script left (suc i) (fire A U)) (λ U. from_each left (suc i) (fire A U)))
 
-pub all_apart : (specification : Specification) (turns : ℕ) (shape : Shape) (main : RuleCode) (script : Script) (limit : ℕ)
-    → Each HaveOwnPaths (of_run specification turns (made_in shape turns main) script limit)
-all_apart specification turns shape main script limit =
-    from_each HaveOwnPaths specification turns (made_in shape turns main) script (λ A s. (rule_placed shape turns (picked s) main [] [] A []).apart) limit 1 specification.initial
+pub all_apart : (specification : Specification) (turns : ℕ) (script : Script) (limit : ℕ) → Each HaveOwnPaths (of_run specification turns (chosen_from specification turns) script limit)
+all_apart specification turns script limit =
+    from_each HaveOwnPaths specification turns (chosen_from specification turns) script
+    (λ A s. (told_placed specification.program turns s.script s.step A nothing_bound [] specification.main).apart) limit 1 specification.initial
 
 -- ---- the choices of what is asked
 
@@ -99,37 +91,39 @@ after_choices : (r : Result) (x : UpdateSet → List (List Asking)) (y : UpdateS
 after_choices (Exhausted q) x y h = refl
 after_choices (Gives U) x y h = if_choices (is_consistent U) (x U) (y U) (h U)
 
-module _ (specification : Specification) (turns : ℕ) (shape : Shape) (main : RuleCode) (script : Script) where
-  from_choices : (left i : ℕ) (A : State) → map choices_of (from_step specification turns (asks_in shape turns main) script left i A) ≡ from_step specification turns (made_in shape turns main) script left i A
+module _ (specification : Specification) (turns : ℕ) (script : Script) where
+  from_choices : (left i : ℕ) (A : State) → map choices_of (from_step specification turns (asked_from specification turns) script left i A) ≡ from_step specification turns (chosen_from specification turns) script left i A
   from_choices zero i A = refl
   from_choices (suc left) i A =
       let s : Situation = record { script = script; step = i } in
-      let rest = after_choices (steps_from specification turns A s) (λ U. from_step specification turns (asks_in shape turns main) script left (suc i) (fire A U))
-      (λ U. from_step specification turns (made_in shape turns main) script left (suc i) (fire A U)) (λ U. from_choices left (suc i) (fire A U)) in
-      (λ j. made_asked shape turns (picked s) main [] [] A [] j ∷ rest j)
+      let rest = after_choices (steps_from specification turns A s) (λ U. from_step specification turns (asked_from specification turns) script left (suc i) (fire A U))
+      (λ U. from_step specification turns (chosen_from specification turns) script left (suc i) (fire A U)) (λ U. from_choices left (suc i) (fire A U)) in
+      (λ j. chosen_from specification turns A s ∷ rest j)
 
-pub choices_are : (specification : Specification) (turns : ℕ) (shape : Shape) (main : RuleCode) (script : Script) (limit : ℕ)
-    → map choices_of (of_run specification turns (asks_in shape turns main) script limit) ≡ of_run specification turns (made_in shape turns main) script limit
-choices_are specification turns shape main script limit = from_choices specification turns shape main script limit 1 specification.initial
+pub choices_are : (specification : Specification) (turns : ℕ) (script : Script) (limit : ℕ)
+    → map choices_of (of_run specification turns (asked_from specification turns) script limit) ≡ of_run specification turns (chosen_from specification turns) script limit
+choices_are specification turns script limit = from_choices specification turns script limit 1 specification.initial
 
 -- ---- the run again
 
-module _ (spec : Spec) (turns : ℕ) (main : RuleCode) (resolving : ResolvingLaws) (resolved : resolved_rule_in spec [] (specification_of spec).main main) (script other : Script) where
-  abbrev specification : Specification
-  specification = specification_of spec
-
+module _ (specification : Specification) (turns : ℕ) (script other : Script) where
   abbrev run_by : Script → (n i : ℕ) → State → Run
   run_by chosen n i A = run_from specification.program turns specification.main chosen n i A
 
   abbrev choices_by : (n i : ℕ) → State → List (List Choice)
-  choices_by n i A = from_step specification turns (made_in (shape_of spec) turns main) script n i A
+  choices_by n i A = from_step specification turns (chosen_from specification turns) script n i A
 
-  step_alike : (i : ℕ) (A : State) → AreTaken (record { script = other; step = i }) (made_in (shape_of spec) turns main A (record { script = script; step = i }))
+  abbrev TakesStep : (i : ℕ) → State → Type 0
+  TakesStep i A = AreTaken (record { script = other; step = i }) (chosen_from specification turns A (record { script = script; step = i }))
+
+  story_alike : (i : ℕ) (A : State) → TakesStep i A → step_tells specification turns other i A ≡ step_tells specification turns script i A
+  story_alike i A = told_again specification.program turns script other i i A nothing_bound [] specification.main
+
+  step_alike : (i : ℕ) (A : State) → TakesStep i A
       → does specification.program turns other i A nothing_bound [] specification.main ≡ does specification.program turns script i A nothing_bound [] specification.main
   step_alike i A taken =
-      sym (resolving.means spec specification.main main turns other i A [] resolved)
-      ∙ (rule_alike (pick other i) (shape_of spec) turns (pick script i) main [] [] A [] taken).0
-      ∙ resolving.means spec specification.main main turns script i A [] resolved
+      sym (told_outcomes specification.program turns other i A nothing_bound [] specification.main) ∙ ap outcome_of (story_alike i A taken)
+      ∙ told_outcomes specification.program turns script i A nothing_bound [] specification.main
 
   good_alike : (b : Bool) (U : UpdateSet) (m i : ℕ) (A : State) (xs : List (List Choice)) (r q : Run) → (MakesFrom other (suc i) xs → r ≡ q) → MakesFrom other (suc i) (cond b xs [])
       → cond b (fired U m r) (ended (AtFault i U) A) ≡ cond b (fired U m q) (ended (AtFault i U) A)
@@ -161,48 +155,45 @@ module _ (spec : Spec) (turns : ℕ) (main : RuleCode) (resolving : ResolvingLaw
   then_steps (Exhausted q) i xs ys f h = refl
   then_steps (Gives U) i xs ys f h = good_steps (is_consistent U) i (xs U) (ys U) (f U) h
 
-  choices_alike : (n i : ℕ) (A : State) → MakesFrom other i (choices_by n i A) → from_step specification turns (made_in (shape_of spec) turns main) other n i A ≡ choices_by n i A
+  choices_alike : (n i : ℕ) (A : State) → MakesFrom other i (choices_by n i A) → from_step specification turns (chosen_from specification turns) other n i A ≡ choices_by n i A
   choices_alike zero i A h = refl
   choices_alike (suc n) i A h =
-      let here = (rule_alike (pick other i) (shape_of spec) turns (pick script i) main [] [] A [] h.0).1 in
+      let here = ap (λ s. choices_of (asked s)) (story_alike i A h.0) in
       let same = ap (λ (o : Outcome). o.result) (step_alike i A h.0) in
-      let rest = λ (U : UpdateSet). from_step specification turns (made_in (shape_of spec) turns main) other n (suc i) (fire A U) in
+      let rest = λ (U : UpdateSet). from_step specification turns (chosen_from specification turns) other n (suc i) (fire A U) in
       (λ j. here j ∷ after_set (same j) rest)
-      ∙ ap (λ xs. made_in (shape_of spec) turns main A (record { script = script; step = i }) ∷ xs)
+      ∙ ap (λ xs. chosen_from specification turns A (record { script = script; step = i }) ∷ xs)
       (then_steps (steps_from specification turns A (record { script = script; step = i })) (suc i) rest (λ U. choices_by n (suc i) (fire A U)) (λ U. choices_alike n (suc i) (fire A U)) h.1)
 
-pub makes_the_run : (spec : Spec) (turns : ℕ) (main : RuleCode) → ResolvingLaws → resolved_rule_in spec [] (specification_of spec).main main → (script : Script) (limit : ℕ) (steps : List (List Choice))
-    → steps ≡ of_run (specification_of spec) turns (made_in (shape_of spec) turns main) script limit
-    → MakesTheRun (specification_of spec) turns script limit (lines_forward steps)
-makes_the_run spec turns main resolving resolved script limit steps are =
-    let specification = specification_of spec in
-    let run_steps = of_run specification turns (made_in (shape_of spec) turns main) script limit in
-    let back = turned [] run_steps in
-    let apart = turned_each HaveOwnPaths [] run_steps tt (all_apart specification turns (shape_of spec) main script limit) in
-    let made = turned_made (exactly (lines_of back)) [] run_steps (lines_make back apart) in
-    subst (λ it. MakesTheRun specification turns script limit (lines_forward it)) (sym are)
-    (subst (MakesTheRun specification turns script limit) (lines_back run_steps)
-    (record {
-      unrepeated = lines_apart back apart;
-      again = run_alike spec turns main resolving resolved script (exactly (lines_of back)) limit 1 specification.initial made.1;
-    }))
+module _ (specification : Specification) (turns : ℕ) (script : Script) (limit : ℕ) (steps : List (List Choice)) (are : steps ≡ of_run specification turns (chosen_from specification turns) script limit) where
+  abbrev run_steps : List (List Choice)
+  run_steps = of_run specification turns (chosen_from specification turns) script limit
 
--- with the lines alone that aren't of first candidates
-pub needed_again : (spec : Spec) (turns : ℕ) (main : RuleCode) → ResolvingLaws → resolved_rule_in spec [] (specification_of spec).main main → (script : Script) (limit : ℕ) (steps : List (List Choice))
-    → steps ≡ of_run (specification_of spec) turns (made_in (shape_of spec) turns main) script limit
-    → (run (specification_of spec) turns (exactly (needed (lines_forward steps))) limit ≡ run (specification_of spec) turns script limit)
-    × (of_run (specification_of spec) turns (made_in (shape_of spec) turns main) (exactly (needed (lines_forward steps))) limit ≡ steps)
-needed_again spec turns main resolving resolved script limit steps are =
-    let specification = specification_of spec in
-    let makes = made_in (shape_of spec) turns main in
-    let run_steps = of_run specification turns makes script limit in
-    let back = turned [] run_steps in
-    let apart = turned_each HaveOwnPaths [] run_steps tt (all_apart specification turns (shape_of spec) main script limit) in
-    let other = exactly (needed (lines_of back)) in
-    let made = turned_made other [] run_steps (needed_make back apart) in
-    let same : lines_of back ≡ lines_forward steps = lines_back run_steps ∙ ap lines_forward (sym are) in (
-      subst (λ ls. run specification turns (exactly (needed ls)) limit ≡ run specification turns script limit) same
-          (run_alike spec turns main resolving resolved script other limit 1 specification.initial made.1),
-      subst (λ ls. of_run specification turns makes (exactly (needed ls)) limit ≡ steps) same
-          (choices_alike spec turns main resolving resolved script other limit 1 specification.initial made.1 ∙ sym are),
-    )
+  abbrev back : List (List Choice)
+  back = turned [] run_steps
+
+  apart : Each HaveOwnPaths back
+  apart = turned_each HaveOwnPaths [] run_steps tt (all_apart specification turns script limit)
+
+  pub makes_the_run : MakesTheRun specification turns script limit (lines_forward steps)
+  makes_the_run =
+      let made = turned_made (exactly (lines_of back)) [] run_steps (lines_make back apart) in
+      subst (λ it. MakesTheRun specification turns script limit (lines_forward it)) (sym are)
+      (subst (MakesTheRun specification turns script limit) (lines_back run_steps)
+      (record {
+        unrepeated = lines_apart back apart;
+        again = run_alike specification turns script (exactly (lines_of back)) limit 1 specification.initial made.1;
+      }))
+
+  -- with the lines alone that aren't of first candidates
+  pub needed_again : (run specification turns (exactly (needed (lines_forward steps))) limit ≡ run specification turns script limit)
+      × (of_run specification turns (chosen_from specification turns) (exactly (needed (lines_forward steps))) limit ≡ steps)
+  needed_again =
+      let other = exactly (needed (lines_of back)) in
+      let made = turned_made other [] run_steps (needed_make back apart) in
+      let same : lines_of back ≡ lines_forward steps = lines_back run_steps ∙ ap lines_forward (sym are) in (
+        subst (λ ls. run specification turns (exactly (needed ls)) limit ≡ run specification turns script limit) same
+            (run_alike specification turns script other limit 1 specification.initial made.1),
+        subst (λ ls. of_run specification turns (chosen_from specification turns) (exactly (needed ls)) limit ≡ steps) same
+            (choices_alike specification turns script other limit 1 specification.initial made.1 ∙ sym are),
+      )

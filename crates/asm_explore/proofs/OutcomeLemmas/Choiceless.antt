@@ -66,7 +66,7 @@ module _ (shape : Shape) (turns : ℕ) (chosen : Path → ℕ) (P : tree.RuleCod
   Here s = (meaning shape turns (picked s) P rs ls A p).result
 
   same_result : (r : Result) → Formed.result ≡ r → (s : Situation) → r ≡ Here s
-  same_result r is s = sym is ∙ sym (ap (λ (o : Outcome). o.result) (same_for_all shape turns chosen P rs ls A p nothing (picked s)))
+  same_result r is s = sym is ∙ sym (ap (λ (o : Outcome). o.result) (same_for_all shape turns chosen (picked s) P rs ls A p nothing))
 
   pub set_shows : (set : SummaryRanges) (instances : ℕ) (updates : Updates) → IsSet shape Formed set instances → ((U : UpdateSet) → Stands shape set U → Stands shape updates.set U)
       → (s : Situation) → Shows shape (answer.Set updates) (Here s)

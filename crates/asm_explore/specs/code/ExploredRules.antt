@@ -22,7 +22,7 @@ use Rattle.asm_eval.specs.declared.frame.Frame.{Frame}
 use Rattle.asm_explore.specs.declared.exploration.Exploration.{Exploration}
 use Rattle.asm_explore.specs.declared.outcomes.listed_outcome.Choice.{Choice}
 use Rattle.asm_explore.specs.code.OutcomeLists.{Situation, picked}
-use Rattle.asm_explore.specs.code.ChoicesMade.{made, parts_of, parts_make, order_makes, turns_make}
+use Rattle.asm_explore.specs.code.ChoicesMade.{made, parts_made, order_made, turns_made}
 
 module _ (on : Exploration) where
   abbrev pub exploration_shape : Shape
@@ -66,13 +66,13 @@ module _ (on : Exploration) where
   makes_on f p R s = made_on f p R s exploration_state
 
   abbrev pub parts_made_from : Frame → Path → ℕ → RuleCodes → Situation → List Choice
-  parts_made_from f p k Rs s = parts_make (parts_of exploration_shape on.turns (picked s) Rs (readings_of exploration_shape f) (frame_locations exploration_shape f)) k exploration_state p
+  parts_made_from f p k Rs s = parts_made exploration_shape on.turns (picked s) Rs (readings_of exploration_shape f) (frame_locations exploration_shape f) k exploration_state p
 
   abbrev pub order_made_from : Frame → Path → ℕ → RuleCodes → Situation → State → List Choice
-  order_made_from f p k Rs s A = order_makes (parts_of exploration_shape on.turns (picked s) Rs (readings_of exploration_shape f) (frame_locations exploration_shape f)) k A p
+  order_made_from f p k Rs s A = order_made exploration_shape on.turns (picked s) Rs (readings_of exploration_shape f) (frame_locations exploration_shape f) k A p
 
   abbrev pub turns_made_from : Frame → Path → (left t : ℕ) → RuleCode → Situation → State → List Choice
-  turns_made_from f p left t R s A = turns_make (record { yields = λ A p. here_on f p R s A; makes = λ A p. made_on f p R s A }) left t A p
+  turns_made_from f p left t R s A = turns_made exploration_shape on.turns (picked s) R (readings_of exploration_shape f) (frame_locations exploration_shape f) left t A p
 
   abbrev pub parts_made_on : Frame → Path → RuleCodes → Situation → List Choice
   parts_made_on f p Rs = parts_made_from f p 0 Rs

@@ -30,9 +30,7 @@ use Rattle.asm_state.specs.Location.{State}
 use Rattle.asm_state.specs.Signature.{Shape, state_of}
 use Rattle.asm_state.specs.Updates.{UpdateSet, IsConsistent}
 use Rattle.asm_reader.specs.ScriptLines.{Script}
-use Rattle.asm_meaning.specs.Does.{does}
-use Rattle.asm_meaning.specs.Program.{nothing_bound}
-use Rattle.asm_meaning.specs.Run.{Specification}
+use Rattle.asm_meaning.specs.Run.{Specification, step}
 use Rattle.asm_meaning.specs.Yields.{Path, Result, Gives, Exhausted}
 use Rattle.asm_explore.specs.declared.search_result.BadStep.{BadStep}
 use Rattle.asm_explore.specs.declared.search_result.SearchEnd.TheVariants as ended
@@ -50,7 +48,7 @@ use Rattle.asm_explore.specs.code.ChoicePaths.{HaveOwnPaths}
 use Rattle.asm_explore.specs.Search.{LeadsOn, IsDeadlock, GoesWrongIn, StaysWithin}
 
 abbrev pub steps_from : Specification → (turns : ℕ) → State → Situation → Result
-steps_from specification turns A s = (does specification.program turns s.script s.step A nothing_bound [] specification.main).result
+steps_from specification turns A s = (step specification turns s.script s.step A).result
 
 -- nodes that were added come from one
 abbrev pub AreBegun : (from : ℕ) → (old new : List Node) → Type 0

@@ -12,7 +12,6 @@ use crate::resolved_question::ResolvedQuestion;
 use crate::scripts::script_line::Zeros;
 use crate::scripts::writing::script_text;
 use asm_reader::Picks;
-use asm_resolve::laws::resolving_laws;
 use asm_syntax::InputError;
 use std::alloc::{AllocError, Global};
 
@@ -31,7 +30,6 @@ pub fn chosen_text<P: Picks>(
     ensures none { let m = specified.now in
         IfOk result (λ found. IfNone found (AreTooLong (chosen_lines (specification_of (spec_of m.checked.now.spec)) m.turns (P.script script.now) steps))) }
 {
-    resolving_laws();
     let (checked, turns) = (specified.checked, specified.turns);
     let made = made_by_run(alloc, checked, specified.code, turns, script, steps)?;
     let lines = lines_of_run(alloc, &made)?;

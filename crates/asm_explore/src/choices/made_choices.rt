@@ -2,12 +2,10 @@
 ghost use Rattle.std.specs.Prelude.{◌≡◌, [], IfOk};
 ghost use Rattle.asm_syntax.specs.code.Views.{spec_of};
 ghost use Rattle.asm_check.specs.Faults.{inits};
-ghost use Rattle.asm_check.specs.Shapes.{shape_of};
 ghost use Rattle.asm_meaning.specs.Declarations.{main_rule, specification_of};
 ghost use Rattle.asm_code.specs.code.RuleViews.{rule_of};
 ghost use Rattle.asm_resolve.specs.code.RuleScopes.{resolved_rule_in};
-ghost use Rattle.asm_explore.specs.code.ChoicesMade.{made_in};
-ghost use Rattle.asm_explore.specs.RunChoices.{choices_in, choices_made, of_run};
+ghost use Rattle.asm_explore.specs.RunChoices.{choices_in, choices_made, chosen_from, of_run};
 
 use crate::choices::choice_point::ChoicePoint;
 use crate::choices::run_choices::{RunChoices, make_step};
@@ -43,7 +41,7 @@ pub(crate) fn made_by_run<P: Picks>(
 ) -> Result<RunChoices, AllocError>
     requires main { let s = spec_of checked.now.spec in resolved_rule_in s [] (main_rule s (inits s)) (rule_of code.now) }
     ensures { let s = spec_of checked.now.spec in
-        IfOk result (λ run. choices_in run ≡ of_run (specification_of s) turns (made_in (shape_of s) turns (rule_of code.now)) (P.script script.now) steps) }
+        IfOk result (λ run. choices_in run ≡ of_run (specification_of s) turns (chosen_from (specification_of s) turns) (P.script script.now) steps) }
 {
     let mut state = State::initial(alloc, checked.signature())?;
     let mut all = Vec::new(alloc);

@@ -9,11 +9,10 @@ ghost use Rattle.asm_updates.specs.code.Stands.{Stands};
 ghost use Rattle.asm_meaning.specs.Declarations.{main_rule, specification_of};
 ghost use Rattle.asm_code.specs.code.RuleViews.{rule_of};
 ghost use Rattle.asm_resolve.specs.code.RuleScopes.{resolved_rule_in};
-ghost use Rattle.asm_explore.specs.code.AskedRules.{asks_in};
 ghost use Rattle.asm_explore.specs.code.AskedPieces.{all_said};
 ghost use Rattle.asm_explore.specs.code.StepLeads.{LeadsTo, LeadsUpon, situation_of};
 ghost use Rattle.asm_explore.specs.code.ReachedStates.{steps_from};
-ghost use Rattle.asm_explore.specs.RunChoices.{AreAsked, AreChoices, MakesTheRun, asked_in, choices_in, choices_made, lines_forward, of_run};
+ghost use Rattle.asm_explore.specs.RunChoices.{AreAsked, AreChoices, MakesTheRun, asked_from, asked_in, choices_in, choices_made, lines_forward, of_run};
 ghost use Rattle.asm_explore.specs.code.ScriptTo.{lines_for};
 ghost use Rattle.asm_explore.specs.code.WrittenScripts.{AreSteps, lines_said};
 
@@ -76,8 +75,8 @@ pub(crate) fn make_step<P: Picks>(
     requires main { let s = spec_of checked.now.spec in resolved_rule_in s [] (main_rule s (inits s)) (rule_of code.now) }
     requires whole { length state.now ≡ count_of (shape_of (spec_of checked.now.spec)) }
     ensures whole { IfOk result (λ next. IfSome next (λ s. length s ≡ count_of (shape_of (spec_of checked.now.spec)))) }
-    ensures asked { let shape = shape_of (spec_of checked.now.spec) in
-        OnOk result (all_said asked.new.items ≡ all_said asked.old.items ++ asks_in shape turns (rule_of code.now) (state_of shape state.now) (situation_of P.script choices.now)) }
+    ensures asked { let s = spec_of checked.now.spec in
+        OnOk result (all_said asked.new.items ≡ all_said asked.old.items ++ asked_from (specification_of s) turns (state_of (shape_of s) state.now) (situation_of P.script choices.now)) }
     ensures leads { let s = spec_of checked.now.spec in
         let A = state_of (shape_of s) state.now in
         IfOk result (LeadsTo (shape_of s) A (steps_from (specification_of s) turns A (situation_of P.script choices.now))) }
@@ -104,8 +103,8 @@ pub(crate) fn make_step<P: Picks>(
     }
 }
 
-/// What is asked in the step from a state: the choices that the rule with this code makes, in their
-/// order, each with its candidates.
+/// What is asked in the step from a state: the choices that the main rule makes, whose code this is,
+/// in their order, each with its candidates.
 pub fn choices_of_step<P: Picks>(
     alloc: Global,
     checked: &Checked,
@@ -116,8 +115,8 @@ pub fn choices_of_step<P: Picks>(
 ) -> Result<Vec<ChoicePoint>, AllocError>
     requires main { let s = spec_of checked.now.spec in resolved_rule_in s [] (main_rule s (inits s)) (rule_of code.now) }
     requires whole { length state.now ≡ count_of (shape_of (spec_of checked.now.spec)) }
-    ensures { let shape = shape_of (spec_of checked.now.spec) in
-        IfOk result (λ asked. all_said asked.items ≡ asks_in shape turns (rule_of code.now) (state_of shape state.now) (situation_of P.script choices.now)) }
+    ensures { let s = spec_of checked.now.spec in
+        IfOk result (λ asked. all_said asked.items ≡ asked_from (specification_of s) turns (state_of (shape_of s) state.now) (situation_of P.script choices.now)) }
 {
     let mut asked = Vec::new(alloc);
     let _next = make_step(alloc, checked, code, turns, choices, state, &mut asked)?;
@@ -135,7 +134,7 @@ fn asked_by_run<P: Picks>(
 ) -> Result<RunChoices, AllocError>
     requires main { let s = spec_of checked.now.spec in resolved_rule_in s [] (main_rule s (inits s)) (rule_of code.now) }
     ensures { let s = spec_of checked.now.spec in
-        IfOk result (λ run. asked_in run ≡ of_run (specification_of s) turns (asks_in (shape_of s) turns (rule_of code.now)) (P.script script.now) steps) }
+        IfOk result (λ run. asked_in run ≡ of_run (specification_of s) turns (asked_from (specification_of s) turns) (P.script script.now) steps) }
 {
     let mut state = State::initial(alloc, checked.signature())?;
     let mut all = Vec::new(alloc);
@@ -168,7 +167,6 @@ pub fn choices_of_run<P: Picks>(
     ensures choices { IfOk result (λ run. AreChoices (spec_of checked.now.spec) turns (P.script script.now) steps (choices_in run)) }
     ensures again { IfOk result (λ run. MakesTheRun (specification_of (spec_of checked.now.spec)) turns (P.script script.now) steps (lines_forward (choices_in run))) }
 {
-    resolving_laws();
     let code = resolve_main(alloc, checked)?;
     match asked_by_run(alloc, checked, &code, turns, script, steps) {
         Ok(choices) => {

@@ -5,13 +5,11 @@ use Rattle.asm_state.specs.declared.value.Value.{Value}
 use Rattle.asm_syntax.specs.code.Views.{spec_of}
 use Rattle.asm_check.specs.Shapes.{shape_of}
 use Rattle.asm_meaning.specs.Declarations.{specification_of}
-use Rattle.asm_code.specs.code.RuleViews.{rule_of}
 use Rattle.asm_explore.specs.declared.choices.choice_point.ChoicePoint.{ChoicePoint}
-use Rattle.asm_explore.specs.code.AskedRules.{asks_in}
 use Rattle.asm_explore.specs.code.AskedPieces.{all_said}
 use Rattle.asm_explore.specs.code.StepLeads.{LeadsTo}
 use Rattle.asm_explore.specs.code.ReachedStates.{steps_from}
-use Rattle.asm_explore.specs.RunChoices.{from_step}
+use Rattle.asm_explore.specs.RunChoices.{asked_from, from_step}
 use Rattle.asm_explore.proofs.ChoiceLemmas.RunSteps.{situation, steps_begin, steps_on, steps_end}
 use Rattle.asm_explore.proofs.choices.run_choices.asked_by_run.Goals as goal
 use Rattle.std.specs.Prelude.{IfSome}
@@ -22,7 +20,7 @@ loop-done-init g c =
     let s = spec_of a.checked.now.spec in
     let shape = shape_of s in
     let same = c.signature.ensures in
-    let its = asks_in shape a.turns (rule_of a.code.now) in
+    let its = asked_from (specification_of s) a.turns in
     let begin : state_of shape c.in_ok-state.state ≡ (specification_of s).initial = subst (λ (sh : Shape). state_of sh c.in_ok-state.state ≡ initial_state sh) same c.in_ok-state.ensures.initial in
     record {
       whole = c.in_ok-state.ensures.whole ∙ ap count_of same;
@@ -36,7 +34,7 @@ returns-in-None g c =
     let s = spec_of a.checked.now.spec in
     let shape = shape_of s in
     let script = g.P.Picks.script a.script.now in
-    let its = asks_in shape a.turns (rule_of a.code.now) in
+    let its = asked_from (specification_of s) a.turns in
     let l = c.loop-done in
     let A = state_of shape l.state in
     let one = all_said c.make_step.new.asked.items in
@@ -57,7 +55,7 @@ loop-done-preserved g c =
     let s = spec_of a.checked.now.spec in
     let shape = shape_of s in
     let script = g.P.Picks.script a.script.now in
-    let its = asks_in shape a.turns (rule_of a.code.now) in
+    let its = asked_from (specification_of s) a.turns in
     let l = c.loop-done in
     let A = state_of shape l.state in
     let one = all_said c.make_step.new.asked.items in

@@ -13,6 +13,7 @@ use Rattle.asm_meaning.specs.code.TermValues.{shown}
 use Rattle.asm_meaning.specs.Yields.{Exhausted}
 use Rattle.asm_code.specs.code.RuleMeaning.{meaning}
 use Rattle.asm_code.specs.code.RuleViews.{rule_of}
+use Rattle.asm_explore.specs.ChoicePoints.{asked}
 use Rattle.asm_explore.specs.code.AskedRules.{asks}
 use Rattle.asm_explore.specs.code.AskedPieces.{all_said}
 use Rattle.asm_explore.proofs.Specifications.{nothing_over}
@@ -31,8 +32,10 @@ returns-in-Exhausted-clause-asked g c =
     nothing_over signature shape c.new-nothing.result a.state.now (shown c.new-view.result) same (c.new-nothing.ensures.empty signature c.count.ensures.sound c.count.ensures.count)
     (λ U stands consistent. c.new-view.ensures.fired U stands consistent) in
     let root : c.new-2.result ≡ [] = c.new-2.ensures ∙ c.new.ensures.items in
-    let chosen = pick (g.P.Picks.script a.choices.now.script.now) a.choices.now.step in
-    c.in_ok-add_asked.ensures ∙ ap (λ xs. all_said a.asked.now.items ++ xs) (λ i. asks (viewed i) a.turns chosen (rule_of a.code.now) [] [] (shows i) (root i))
+    let script = g.P.Picks.script a.choices.now.script.now in
+    let step = a.choices.now.step in
+    c.in_ok-add_asked.ensures ∙ ap (λ xs. all_said a.asked.now.items ++ xs) ((λ i. asks (viewed i) a.turns (pick script step) (rule_of a.code.now) [] [] (shows i) (root i))
+    ∙ ap asked (c.resolving_laws.ensures.tells s (main_rule s (inits s)) (rule_of a.code.now) a.turns script step (state_of shape a.state.now) [] c.requires.main))
 
 pub returns-in-Exhausted-clause-leads : goal.returns-in-Exhausted-clause-leads
 returns-in-Exhausted-clause-leads g c =
@@ -67,9 +70,11 @@ returns-clause-asked g c =
     nothing_over signature shape c.new-nothing.result a.state.now (shown c.new-view.result) same (c.new-nothing.ensures.empty signature c.count.ensures.sound c.count.ensures.count)
     (λ U stands consistent. c.new-view.ensures.fired U stands consistent) in
     let root : c.new-2.result ≡ [] = c.new-2.ensures ∙ c.new.ensures.items in
-    let chosen = pick (g.P.Picks.script a.choices.now.script.now) a.choices.now.step in
+    let script = g.P.Picks.script a.choices.now.script.now in
+    let step = a.choices.now.step in
     on_ok c.next_state.result _
-    (c.in_ok-add_asked.ensures ∙ ap (λ xs. all_said a.asked.now.items ++ xs) (λ i. asks (viewed i) a.turns chosen (rule_of a.code.now) [] [] (shows i) (root i)))
+    (c.in_ok-add_asked.ensures ∙ ap (λ xs. all_said a.asked.now.items ++ xs) ((λ i. asks (viewed i) a.turns (pick script step) (rule_of a.code.now) [] [] (shows i) (root i))
+    ∙ ap asked (c.resolving_laws.ensures.tells s (main_rule s (inits s)) (rule_of a.code.now) a.turns script step (state_of shape a.state.now) [] c.requires.main)))
 
 pub returns-clause-leads : goal.returns-clause-leads
 returns-clause-leads g c =
