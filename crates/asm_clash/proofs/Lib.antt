@@ -9,5 +9,4 @@ pub mod StandingSequences
 pub mod NextParts
 pub mod Leaves
 pub mod FirstFaults
-pub mod Runs
 pub mod Steps

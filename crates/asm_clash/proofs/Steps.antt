@@ -25,9 +25,11 @@ use Rattle.asm_meaning.specs.code.FormedOutcomes.{greatest_count}
 use Rattle.asm_meaning.specs.Declarations.{main_rule, specification_of}
 use Rattle.asm_meaning.specs.Does.{Outcome, does}
 use Rattle.asm_meaning.specs.Program.{nothing_bound}
-use Rattle.asm_meaning.specs.Run.{AtExhausted, AtFault, Run, Specification, run}
+use Rattle.asm_meaning.specs.Run.{AtExhausted, AtFault, Run, Specification, run, IsAfter}
+use Rattle.asm_meaning.specs.RunLaws.{RunLaws}
 use Rattle.asm_meaning.specs.Story.{Story, outcome_of, step_tells}
 use Rattle.asm_meaning.specs.Yields.{Path, Result, Gives, Exhausted}
+use Rattle.asm_meaning.proofs.LongerRuns.{run_laws}
 use Rattle.asm_code.specs.code.RuleMeaning.{meaning}
 use Rattle.asm_code.specs.code.RuleStories.{telling}
 use Rattle.asm_code.specs.code.RuleTree.{RuleCode}
@@ -49,7 +51,6 @@ use Rattle.asm_clash.specs.declared.clash.ClashOfRun.TheVariants as clash
 use Rattle.asm_clash.specs.declared.found.Found.{Found}
 use Rattle.asm_clash.specs.declared.step_end.StepEnd.TheVariants as made
 use Rattle.asm_clash.proofs.FirstFaults.{first_is_fault}
-use Rattle.asm_clash.proofs.Runs.{IsRest, rest_exhausted, rest_faulty, rest_fired}
 use Rattle.asm_clash.proofs.StandingSets.{standing_laws}
 use Rattle.asm_clash.proofs.StandingTold.{set_told}
 
@@ -74,23 +75,26 @@ pub nothing_over : (shape : Shape) (set : SummaryRanges) (contents : List Value)
 nothing_over shape set contents A stands fired = fired none stands none_consistent ∙ fire_laws.of_none (state_of shape contents)
 
 module _ (laws : ResolvingLaws) (s : Spec) (turns : ℕ) (script : Script) (limit done step : ℕ) (A : State) (R : RuleCode)
-    (resolved : resolved_rule_in s [] (main_rule s (inits s)) R) (at : step ≡ done + 1) (low : done < limit) (rest : IsRest (specification_of s) turns script limit done A) where
+    (resolved : resolved_rule_in s [] (main_rule s (inits s)) R) (at : step ≡ done + 1) (low : done < limit) (after : IsAfter (specification_of s) turns script done A) where
   abbrev main : Specification
   main = specification_of s
 
   abbrev whole : Run
   whole = run main turns script limit
 
+  laws_of_runs : RunLaws main turns script
+  laws_of_runs = run_laws main turns script
+
   code_yields : (r : Result) → coded (shape_of s) turns (pick script step) R A ≡ r → (does main.program turns script (done + 1) A nothing_bound [] main.main).result ≡ r
   code_yields r is =
       sym (ap (λ (o : Outcome). o.result) (laws.means s (main_rule s (inits s)) R turns script (done + 1) A [] resolved))
       ∙ ap (λ k. coded (shape_of s) turns (pick script k) R A) (sym at) ∙ is
 
-  pub goes_on : (U : UpdateSet) (B : State) → coded (shape_of s) turns (pick script step) R A ≡ Gives U → IsConsistent U → B ≡ fire A U → IsRest main turns script limit (done + 1) B
-  goes_on U B gives good leads = rest_fired main turns script limit done A low rest U B (code_yields (Gives U) gives) good leads
+  pub goes_on : (U : UpdateSet) (B : State) → coded (shape_of s) turns (pick script step) R A ≡ Gives U → IsConsistent U → B ≡ fire A U → IsAfter main turns script (done + 1) B
+  goes_on U B gives good leads = laws_of_runs.more done A B after (U, code_yields (Gives U) gives, good, leads)
 
   pub ends_exhausted : (most : ℕ) (q : Path) → IsStepEnd (shape_of s) turns (pick script step) R A most (made.Exhausted q) → EndsSo s turns script most whole (clash.Exhausted step q)
-  ends_exhausted most q is = rest_exhausted main turns script limit done A low rest q (code_yields (Exhausted q) is) ∙ ap (λ k. AtExhausted k q) (sym at)
+  ends_exhausted most q is = (laws_of_runs.exhausted done limit A q low after (code_yields (Exhausted q) is)).0 ∙ ap (λ k. AtExhausted k q) (sym at)
 
   -- what the main rule tells in the step, and its code
   abbrev story : State → Story
@@ -114,7 +118,7 @@ module _ (laws : ResolvingLaws) (s : Spec) (turns : ℕ) (script : Script) (limi
     coded_here = coded_at (shape_of s) turns (pick script step) R A fault
 
     ended : (whole.end ≡ AtFault (done + 1) U) × (whole.last ≡ A)
-    ended = rest_faulty main turns script limit done A low rest U (code_yields (Gives U) made_so.1) (first_is_fault U (fault_of (shape_of s) fault) made_so.2)
+    ended = laws_of_runs.faulty done limit A U low after (code_yields (Gives U) made_so.1) (first_is_fault U (fault_of (shape_of s) fault) made_so.2)
 
     -- those of the code are those of the story
     told : all_assigned_by coded_here ≡ stands l (story whole.last)

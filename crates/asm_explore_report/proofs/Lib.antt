@@ -4,7 +4,6 @@ mod BetweenLines
 mod ConditionLines
 mod JoinedTerms
 mod PrintedScripts
-mod RunMore
 mod SkippedLines
 mod ToldEnds
 mod TraceText

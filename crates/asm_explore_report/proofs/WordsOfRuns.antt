@@ -16,7 +16,7 @@ use Rattle.asm_explore.specs.declared.fault.Fault.TheVariants.{Exhausted, Incons
 use Rattle.asm_run.specs.Headline.{book_run}
 use Rattle.asm_run.specs.Written.{names_in}
 use Rattle.asm_explore_report.specs.EndWords.{IsEndWords}
-use Rattle.asm_explore_report.specs.Replay.{IsAfter}
+use Rattle.asm_meaning.specs.Run.{IsAfter}
 use Rattle.asm_explore_report.specs.FaultWords.{FaultTells, IsBroken}
 
 pub end_tells : (checked : Checked) (links : List (Op × Term)) (turns : ℕ) (fault : Fault) (text : List ℕ) (step : ℕ) (words : List ℕ) → (fault ≡ Exhausted) ⊎ (fault ≡ Inconsistent)

@@ -8,7 +8,6 @@ pub mod FaultWords
 pub mod FirstLine
 pub mod Printed
 pub mod Refusals
-pub mod Replay
 pub mod RunEnds
 pub mod ShownRuns
 pub mod TraceLines

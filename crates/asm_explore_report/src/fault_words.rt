@@ -16,7 +16,7 @@ ghost use Rattle.asm_meaning.specs.Declarations.{specification_of};
 ghost use Rattle.asm_explore.specs.Search.{steps_to};
 ghost use Rattle.asm_run.specs.Headline.{IsAccepted};
 ghost use Rattle.asm_explore_texts.specs.Conditions.{IsJoined};
-ghost use Rattle.asm_explore_report.specs.Replay.{IsAfter};
+ghost use Rattle.asm_meaning.specs.Run.{IsAfter};
 ghost use Rattle.asm_explore_report.specs.FaultWords.{BadTells, IsBroken};
 
 use crate::broken_condition::broken_in;

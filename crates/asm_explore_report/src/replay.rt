@@ -9,15 +9,14 @@ ghost use Rattle.asm_meaning.specs.Does.{does};
 ghost use Rattle.asm_meaning.specs.code.FormedOutcomes.{IsFormed};
 ghost use Rattle.asm_meaning.specs.Program.{nothing_bound};
 ghost use Rattle.asm_meaning.specs.code.TermValues.{program, shown};
-ghost use Rattle.asm_explore_report.specs.Replay.{IsAfter, IsStep};
+ghost use Rattle.asm_meaning.specs.Run.{IsAfter, IsStep};
 
 use asm_by_code::by_code::outcome_by_code;
 use asm_check::Checked;
 use asm_eval::evaluation::Evaluation;
-use asm_meaning::laws::from_nothing_laws;
+use asm_meaning::laws::{from_nothing_laws, run_laws};
 use asm_meaning::{Choices, Forming, Outcome, View};
 use asm_reader::Script;
-use asm_state::laws::test_laws;
 use asm_state::state::State;
 use asm_updates::summary::Summary;
 use std::alloc::{AllocError, Global};
@@ -84,7 +83,7 @@ pub(crate) fn state_after(
     ensures after { let s = spec_of checked.now.spec in
         IfOk result (λ last. IfSome last (λ A. IsAfter (specification_of s) turns script.now steps (state_of (shape_of s) A))) }
 {
-    test_laws();
+    run_laws();
     let mut state = State::initial(alloc, checked.signature())?;
     for done in 0..steps {
         let choices = Choices {

@@ -17,12 +17,12 @@ use Rattle.asm_updates.specs.declared.fault.Fault.{Fault as NumberedFault}
 use Rattle.asm_meaning.specs.Does.{Outcome, does}
 use Rattle.asm_meaning.specs.code.FormedOutcomes.{Follows, IsSet}
 use Rattle.asm_meaning.specs.Program.{nothing_bound}
-use Rattle.asm_meaning.specs.Run.{Specification}
+use Rattle.asm_meaning.specs.Run.{Specification, IsStep}
 use Rattle.asm_meaning.specs.Yields.{Path, Exhausted}
 use Rattle.asm_meaning.specs.declared.outcome.Forming.{Forming}
 use Rattle.asm_meaning.specs.declared.stopped.Stopped.{Stopped}
 use Rattle.asm_explore.specs.declared.fault.Fault.TheVariants as fault
-use Rattle.asm_random.specs.code.Replay.{GoesWrong, IsStep, yields}
+use Rattle.asm_random.specs.code.WrongSteps.{GoesWrong, yields}
 use Rattle.asm_random.proofs.FirstFaults.{no_fault_found, fault_found}
 
 pub follows_same : {T : Type 0} (shape : Shape) (o p : Outcome) (old new : Forming) (r : Returned T Stopped) → o ≡ p → Follows shape o old new r → Follows shape p old new r

@@ -8,10 +8,10 @@ use Rattle.std.proofs.Common.{◌≡◌, ◌∙◌, ℕ, Bool, true, false, sym,
 use Rattle.asm_state.specs.Location.{State}
 use Rattle.asm_state.specs.Updates.{UpdateSet, IsConsistent, fire}
 use Rattle.asm_reader.specs.ScriptLines.{Script}
-use Rattle.asm_meaning.specs.Run.{Specification}
+use Rattle.asm_meaning.specs.Run.{Specification, IsStep}
 use Rattle.asm_meaning.specs.Yields.{Path, Result, Gives, Exhausted}
 use Rattle.asm_explore.specs.Search.{IsQuiet}
-use Rattle.asm_random.specs.code.Replay.{IsSameForAll, IsStep, yields}
+use Rattle.asm_random.specs.code.WrongSteps.{IsSameForAll, yields}
 
 one_set : (r : Result) (U V : UpdateSet) → r ≡ Gives U → r ≡ Gives V → U ≡ V
 one_set r U V is also = cc

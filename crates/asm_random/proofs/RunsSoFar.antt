@@ -7,17 +7,17 @@
 --     fine_wrong             and goes wrong if its next step does
 use Rattle.std.proofs.Common.{◌≡◌, ℕ, zero, suc, ◌+◌, ◌<◌, ◌≤◌, ◌⊎◌, Bool, true, false, inl, refl, sym, ap, subst, ◌∙◌, arith, below_more}
 use Rattle.asm_state.specs.Location.{State}
-use Rattle.asm_state.specs.Updates.{UpdateSet, IsConsistent, is_consistent}
 use Rattle.asm_reader.specs.ScriptLines.{Script}
-use Rattle.asm_meaning.specs.Run.{Specification, run}
+use Rattle.asm_meaning.specs.Run.{Specification, run, IsAfter, IsStep}
+use Rattle.asm_meaning.specs.RunLaws.{RunLaws}
 use Rattle.asm_explore.specs.declared.fault.Fault.{Fault}
 use Rattle.asm_explore.specs.declared.fault.Fault.TheVariants as fault
 use Rattle.asm_explore.specs.declared.outcomes.outcomes_error.RuleOverLimit.{RuleOverLimit}
 use Rattle.asm_explore.specs.Search.{IsAliveOrCrowded, IsDeadlock, steps_to}
 use Rattle.asm_random.specs.BadDrafts.{IsWrongUnder}
 use Rattle.asm_random.specs.FineRuns.{IsFineRun, MayEnd}
-use Rattle.asm_random.specs.code.Replay.{GoesWrong, IsAfter, IsStep}
-use Rattle.asm_random.proofs.Endings.{after_more, goes_wrong}
+use Rattle.asm_random.specs.code.WrongSteps.{GoesWrong}
+use Rattle.asm_random.proofs.Endings.{goes_wrong}
 use Rattle.asm_random.proofs.QuietSteps.{exhausted_changes, inconsistent_changes, wrong_changes}
 
 module _ (specification : Specification) (turns : ℕ) (crowds : State → RuleOverLimit → Type 0) (right rests : State → Bool) where
@@ -39,14 +39,14 @@ module _ (specification : Specification) (turns : ℕ) (crowds : State → RuleO
       first zero low = h
       first (suc k) low = absurd (omega (arith, low))
 
-  module _ (script : Script) (n : ℕ) (A : State) (h : IsFineTo script n A) (tests : (U : UpdateSet) → IsConsistent U → is_consistent U ≡ true) where
+  module _ (script : Script) (n : ℕ) (A : State) (h : IsFineTo script n A) (laws : RunLaws specification turns script) where
     -- one more state is passed
     passed_more : IsPassed A → (k : ℕ) → k < n + 1 → IsPassed (run specification turns script k).last
     passed_more here = below_more (λ k. IsPassed (run specification turns script k).last) n h.passed (subst IsPassed (sym h.after.1) here)
 
     pub fine_next : (B : State) → IsStep specification turns script (n + 1) A B → right B ≡ true → IsPassed A → IsFineTo script (n + 1) B
     fine_next B step is_right here =
-        let there = after_more specification turns script n A B tests h.after step in
+        let there = laws.more n A B h.after step in
         record {
           after = there;
           are_right = below_more (λ k. right (run specification turns script k).last ≡ true) (n + 1) h.are_right (ap right there.1 ∙ is_right);
@@ -70,14 +70,14 @@ module _ (specification : Specification) (turns : ℕ) (crowds : State → RuleO
     passed_before fault.Wrong (B, step, wrong) is_right = passed_more (inl (λ d. wrong_changes specification turns script (n + 1) A B right step is_right wrong d.0))
     passed_before fault.Deadlock wrong is_right = λ k low. h.passed k (omega (arith, low))
 
-    pub fine_wrong : (most : ℕ) (f : Fault) → n < most → ((U : UpdateSet) → ¬ (IsConsistent U) → is_consistent U ≡ false) → GoesWrong specification turns script right dead (n + 1) A f
+    pub fine_wrong : (most : ℕ) (f : Fault) → n < most → GoesWrong specification turns script right dead (n + 1) A f
         → IsWrongUnder specification turns crowds most right rests script (n + 1) f
-    fine_wrong most f low fails wrong =
+    fine_wrong most f low wrong =
         let here : n < n + 1 = omega arith in
         record {
           counted = omega arith;
           limited = omega (arith, low);
-          wrong = goes_wrong specification turns script right rests n A tests f fails h.after wrong;
+          wrong = goes_wrong specification turns script laws right rests n A f h.after wrong;
           before = h.are_right;
           alive = passed_before f wrong (ap right (sym h.after.1) ∙ h.are_right n here);
         }

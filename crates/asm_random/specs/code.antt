@@ -1,6 +1,6 @@
 -- Bridge to the code. What connects the definitions of this crate to its code.
 pub mod DraftSteps
 pub mod FaultKinds
-pub mod Replay
+pub mod WrongSteps
 pub mod ResolvedRuns
 pub mod ShorterRuns

@@ -3,12 +3,11 @@ ghost use Rattle.std.specs.Prelude.{◌≡◌, length, IfOk};
 ghost use Rattle.asm_state.specs.Signature.{count_of, state_of};
 ghost use Rattle.asm_syntax.specs.code.Views.{spec_of};
 ghost use Rattle.asm_check.specs.Shapes.{shape_of};
-ghost use Rattle.asm_code.specs.code.RuleViews.{rule_of};
+ghost use Rattle.asm_explore.specs.RunChoices.{asked_from};
 ghost use Rattle.asm_explore.specs.code.AskedPieces.{all_said};
-ghost use Rattle.asm_explore.specs.code.AskedRules.{asks_in};
 ghost use Rattle.asm_explore.specs.code.ResolvedConditions.{IsSpecified};
 ghost use Rattle.asm_explore.specs.code.StepLeads.{situation_of};
-ghost use Rattle.asm_random.specs.code.ResolvedRuns.{shape_in};
+ghost use Rattle.asm_random.specs.code.ResolvedRuns.{shape_in, specification_in};
 
 use asm_explore::{ChoicePoint, ResolvedQuestion, choices_of_step};
 use asm_meaning::Choices;
@@ -26,7 +25,7 @@ pub(crate) fn asked_in<P: Picks>(
     requires sound { IsSpecified specified.now }
     requires whole { length state.now ≡ count_of (shape_of (spec_of specified.now.checked.now.spec)) }
     ensures { let m = specified.now in
-        IfOk result (λ asked. all_said asked.items ≡ asks_in (shape_in m) m.turns (rule_of m.code.now) (state_of (shape_in m) state.now) (situation_of P.script choices.now)) }
+        IfOk result (λ asked. all_said asked.items ≡ asked_from (specification_in m) m.turns (state_of (shape_in m) state.now) (situation_of P.script choices.now)) }
 {
     choices_of_step(
         alloc,

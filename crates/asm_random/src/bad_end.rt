@@ -10,8 +10,8 @@ use crate::position::Position;
 use crate::stepping::step_from;
 use asm_explore::{Fault, ResolvedQuestion};
 use asm_meaning::Choices;
+use asm_meaning::laws::run_laws;
 use asm_reader::Picks;
-use asm_state::laws::test_laws;
 use std::alloc::{AllocError, Global};
 
 /// How a run goes wrong.
@@ -57,7 +57,7 @@ pub(crate) fn wrong_under<P: Picks>(
     ensures fine { let m = specified.now in
         IfOk result (λ found. IfNone found (IsFineRun (specification_in m) m.turns (crowds_in m) steps (right_in m) (rests_in m) record { script = P.script script.now; steps = steps })) }
 {
-    test_laws();
+    run_laws();
     let mut at = Position::first(alloc, specified)?;
     for done in 0..steps {
         let choices = Choices {

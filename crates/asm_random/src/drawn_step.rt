@@ -5,16 +5,16 @@ ghost use Rattle.asm_syntax.specs.code.Views.{spec_of};
 ghost use Rattle.asm_check.specs.Shapes.{shape_of};
 ghost use Rattle.asm_explore.specs.code.ResolvedConditions.{IsSpecified};
 ghost use Rattle.asm_random.specs.code.DraftSteps.{AddsStep, ReplacesLast};
-ghost use Rattle.asm_random.specs.code.Replay.{IsSameForAll};
+ghost use Rattle.asm_random.specs.code.WrongSteps.{IsSameForAll};
 ghost use Rattle.asm_random.specs.code.ResolvedRuns.{shape_in, specification_in};
 
 use crate::asked_in::asked_in;
 use crate::draft::{Draft, Numbers};
 use crate::random_source::RandomSource;
-use asm_explore::laws::{asking_law, making_laws};
+use asm_explore::laws::making_laws;
 use asm_explore::{ChoicePoint, ResolvedQuestion};
 use asm_meaning::Choices;
-use asm_resolve::laws::resolving_laws;
+use asm_meaning::laws::told_outcomes;
 use asm_state::state::State;
 use std::alloc::{AllocError, Global};
 use std::collections::BTreeMap;
@@ -81,9 +81,8 @@ pub(crate) fn draw_step(
     ensures alike { let m = specified.now in
         IfOk result (λ chosen. chosen ≡ false → IsSameForAll (specification_in m) m.turns (state_of (shape_in m) state.now)) }
 {
-    asking_law();
     making_laws();
-    resolving_laws();
+    told_outcomes();
     draft.steps.push(BTreeMap::new(alloc))?;
     let step = draft.steps.len() as u64;
     for _round in 0..u32::MAX {

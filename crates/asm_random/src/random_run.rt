@@ -10,7 +10,7 @@ use crate::random_source::RandomSource;
 use crate::stepping::step_from;
 use asm_explore::{Fault, ResolvedQuestion};
 use asm_meaning::Choices;
-use asm_state::laws::test_laws;
+use asm_meaning::laws::run_laws;
 use std::alloc::{AllocError, Global};
 
 /// A run that was drawn.
@@ -35,7 +35,7 @@ pub(crate) fn random_run(
     ensures wrong { IfOk result (λ drawn. IfSome drawn.fault (IsWrongDraft specified.now steps drawn.draft drawn.steps)) }
     ensures fine { IfOk result (λ drawn. IfNone drawn.fault (IsFineDraft specified.now steps drawn.draft drawn.steps)) }
 {
-    test_laws();
+    run_laws();
     let mut draft = Draft::new(alloc);
     let mut at = Position::first(alloc, specified)?;
     for done in 0..steps {

@@ -12,7 +12,7 @@ ghost use Rattle.asm_meaning.specs.Program.{nothing_bound};
 ghost use Rattle.asm_meaning.specs.code.TermValues.{shown};
 ghost use Rattle.asm_eval.specs.code.Evaluation.{HasLocations, evaluation_shape, evaluation_state};
 ghost use Rattle.asm_explore.specs.code.ResolvedConditions.{IsSpecified};
-ghost use Rattle.asm_random.specs.code.Replay.{MakesStep};
+ghost use Rattle.asm_random.specs.code.WrongSteps.{MakesStep};
 ghost use Rattle.asm_random.specs.code.ResolvedRuns.{IsDead, IsPassed, right_in, shape_in, specification_in};
 
 use crate::deadlock::is_deadlock;

@@ -3,7 +3,7 @@ use Rattle.asm_state.specs.Signature.{count_of, state_of}
 use Rattle.asm_syntax.specs.code.Views.{spec_of}
 use Rattle.asm_check.specs.Shapes.{shape_of}
 use Rattle.asm_meaning.specs.Declarations.{specification_of}
-use Rattle.asm_clash.proofs.Runs.{IsRest}
+use Rattle.asm_meaning.specs.Run.{IsAfter}
 use Rattle.asm_clash.proofs.clash.clash_of_run.Given as goal
 
 abbrev pub invariant-loop-done : goal.invariant-loop-done
@@ -11,5 +11,5 @@ invariant-loop-done l =
     let s = spec_of l.checked.spec in
     record {
       whole : length l.state ≡ count_of (shape_of s);
-      rest : IsRest (specification_of s) l.turns l.script l.steps l.done (state_of (shape_of s) l.state);
+      after : IsAfter (specification_of s) l.turns l.script l.done (state_of (shape_of s) l.state);
     }

@@ -4,8 +4,7 @@ use Rattle.asm_state.specs.Signature.{Shape, count_of, initial_state, state_of}
 use Rattle.asm_syntax.specs.code.Views.{spec_of}
 use Rattle.asm_check.specs.Shapes.{shape_of}
 use Rattle.asm_meaning.specs.Declarations.{specification_of}
-use Rattle.asm_explore_report.specs.Replay.{IsStep}
-use Rattle.asm_explore_report.proofs.RunMore.{after_more}
+use Rattle.asm_meaning.specs.Run.{IsStep}
 use Rattle.asm_explore_report.proofs.replay.state_after.Goals as goal
 
 some : {X : Type 0} (o : Option X) (x : X) (P : X → Type 0) → o ≡ Some x → IfSome o P → P x
@@ -30,6 +29,5 @@ loop-done-preserved c =
     let numbered = subst (λ (k : ℕ). IsStep (specification_of s) c.args.turns c.args.script.now (k + 1) old (state_of shape c.in-Some.next)) c.from.ensures step in
     record {
       whole = some c.in_ok-next.field-0 c.in-Some.next (λ B. length B ≡ count_of shape) c.in-Some.is c.in_ok-next.ensures.whole;
-      after = after_more (specification_of s) c.args.turns c.args.script.now c.loop-done.done old (state_of shape c.in-Some.next)
-          (λ U good. (c.test_laws.ensures.consistency U).1 good) i.after numbered;
+      after = (c.run_laws.ensures (specification_of s) c.args.turns c.args.script.now).more c.loop-done.done old (state_of shape c.in-Some.next) i.after numbered;
     }

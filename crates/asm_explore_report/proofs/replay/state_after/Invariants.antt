@@ -3,7 +3,7 @@ use Rattle.asm_state.specs.Signature.{count_of, state_of}
 use Rattle.asm_syntax.specs.code.Views.{spec_of}
 use Rattle.asm_check.specs.Shapes.{shape_of}
 use Rattle.asm_meaning.specs.Declarations.{specification_of}
-use Rattle.asm_explore_report.specs.Replay.{IsAfter}
+use Rattle.asm_meaning.specs.Run.{IsAfter}
 use Rattle.asm_explore_report.proofs.replay.state_after.Given as goal
 
 abbrev pub invariant-loop-done : goal.invariant-loop-done

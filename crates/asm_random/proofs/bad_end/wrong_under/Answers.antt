@@ -1,10 +1,10 @@
 use Rattle.std.proofs.Common.{◌≡◌, ◌∙◌, ◌+◌, ◌≤◌, ℕ, true, sym, ap, subst, Ok, Err, arith, inl, refl}
 use Rattle.std.specs.Prelude.{IfOk, IfErr, Result}
-use Rattle.std.proofs.lemmas.Bool.{false_from_ne_true, false≢true}
+use Rattle.std.proofs.lemmas.Bool.{false≢true}
 use Rattle.asm_state.specs.code.Contents.{IsStateOf}
 use Rattle.asm_state.specs.Signature.{state_of}
-use Rattle.asm_state.specs.Updates.{is_consistent}
-use Rattle.asm_random.specs.code.Replay.{GoesWrong, IsStep}
+use Rattle.asm_meaning.specs.Run.{IsStep}
+use Rattle.asm_random.specs.code.WrongSteps.{GoesWrong}
 use Rattle.asm_random.specs.code.ResolvedRuns.{IsDead, IsPassed, crowds_in, rests_in, right_in, shape_in, specification_in}
 use Rattle.asm_random.specs.declared.position.Position.{Position}
 use Rattle.asm_random.proofs.RunsSoFar.{IsFineTo, fine_first, fine_next, fine_run, fine_wrong}
@@ -45,7 +45,7 @@ loop-done-preserved g c =
     let same = ok ended.field-0 next (λ (next : Position). next.stays ≡ true → next.state ≡ c.loop-done.at.state) c.in-Ok.is ended.ensures.stays in
     record {
       kept = ok ended.field-0 next (λ (next : Position). IsStateOf shape next.state) c.in-Ok.is ended.ensures.step.kept;
-      fine = fine_next spec m.turns (crowds_in m) (right_in m) (rests_in m) script done old i.fine (λ U good. (c.test_laws.ensures.consistency U).1 good) new step right passed;
+      fine = fine_next spec m.turns (crowds_in m) (right_in m) (rests_in m) script done old i.fine (c.run_laws.ensures spec m.turns script) new step right passed;
       looked = λ stays. subst (IsPassed m) (ap (state_of shape) (sym (same stays))) passed;
     }
 
@@ -57,9 +57,8 @@ returns-in-Err-clause-wrong g c =
     let old = state_of (shape_in m) c.loop-done.at.state in
     let wrong = err c.in_ok-next.field-0 c.in-Err.fault (GoesWrong spec m.turns script (right_in m) (IsDead m) (c.from.result + 1) old) c.in-Err.is c.in_ok-next.ensures.step.wrong in
     let numbered = subst (λ (k : ℕ). GoesWrong spec m.turns script (right_in m) (IsDead m) (k + 1) old c.in-Err.fault) c.from.ensures wrong in
-    let tests = c.test_laws.ensures.consistency in
-    fine_wrong spec m.turns (crowds_in m) (right_in m) (rests_in m) script c.loop-done.done old c.loop-done.invariant.fine (λ U good. (tests U).1 good) c.args.steps c.in-Err.fault
-    c.loop-done-test.true (λ U bad. false_from_ne_true (is_consistent U) (λ is. bad ((tests U).0 is))) numbered
+    fine_wrong spec m.turns (crowds_in m) (right_in m) (rests_in m) script c.loop-done.done old c.loop-done.invariant.fine (c.run_laws.ensures spec m.turns script) c.args.steps c.in-Err.fault
+    c.loop-done-test.true numbered
 
 pub returns-clause-fine : goal.returns-clause-fine
 returns-clause-fine g c =
@@ -72,4 +71,4 @@ returns-clause-fine g c =
     let here : steps ≤ steps = omega arith in
     fine_run spec m.turns (crowds_in m) (right_in m) (rests_in m) script steps A
     (subst (λ (k : ℕ). IsFineTo spec m.turns (crowds_in m) (right_in m) (rests_in m) script k A) all c.loop-done.invariant.fine)
-    (λ U good. (c.test_laws.ensures.consistency U).1 good) steps here (inl refl)
+    (c.run_laws.ensures spec m.turns script) steps here (inl refl)

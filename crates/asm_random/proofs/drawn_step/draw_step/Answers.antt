@@ -2,10 +2,8 @@ use Rattle.std.proofs.Common.{◌≡◌, ◌∙◌, Bool, true, false, List, [],
 use Rattle.std.specs.Prelude.{not}
 use Rattle.std.proofs.lemmas.Grind.{common_steps}
 use Rattle.asm_state.specs.Signature.{state_of}
-use Rattle.asm_syntax.specs.code.Views.{spec_of}
-use Rattle.asm_code.specs.code.RuleViews.{rule_of}
 use Rattle.asm_explore.specs.code.AskedPieces.{all_said}
-use Rattle.asm_random.specs.code.ResolvedRuns.{shape_in}
+use Rattle.asm_random.specs.code.ResolvedRuns.{shape_in, specification_in}
 use Rattle.asm_random.proofs.ChoicelessSteps.{same_for_all}
 use Rattle.asm_random.proofs.drawn_step.draw_step.Goals as goal
 
@@ -29,10 +27,6 @@ returns-then-settled-clause-adds c = (c.in_ok-numbers.numbers, c.in_ok-replace_l
 pub returns-then-settled-clause-alike : goal.returns-then-settled-clause-alike
 returns-then-settled-clause-alike c = λ unchosen.
     let m = c.args.specified.now in
-    let shape = shape_in m in
-    let R = rule_of m.code.now in
-    let A = state_of shape c.args.state.now in
     let count : length c.in_ok-asked.asked.items ≡ 0 = grind (arith, common_steps, sym c.is_empty.ensures ∙ is_so c.is_empty.result unchosen) in
     let none : c.in_ok-asked.asked.items ≡ [] = nothing_left c.in_ok-asked.asked.items count in
-    let nothing = sym c.in_ok-asked.ensures ∙ ap all_said none in
-    same_for_all c.resolving_laws.ensures (spec_of m.checked.now.spec) m.turns R c.requires.sound.main A _ (c.making_laws.ensures shape m.turns _ R [] [] A []) (c.asking_law.ensures shape m.turns _ R [] [] A []) nothing
+    same_for_all c.told_outcomes.ensures (specification_in m) m.turns _ _ (state_of (shape_in m) c.args.state.now) (c.making_laws.ensures _ m.turns _ _ _ _ _ _) (sym c.in_ok-asked.ensures ∙ ap all_said none)

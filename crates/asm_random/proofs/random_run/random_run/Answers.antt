@@ -1,14 +1,14 @@
 use Rattle.std.proofs.Common.{◌≡◌, ◌∙◌, ◌+◌, ◌≤◌, ℕ, true, false, List, Ok, Err, refl, sym, ap, subst, length, arith, inl, inr, Vec, Global}
 use Rattle.std.specs.BTreeMap.{BTreeMap}
 use Rattle.std.specs.Prelude.{IfOk, IfErr, Result}
-use Rattle.std.proofs.lemmas.Bool.{false_from_ne_true, false≢true}
+use Rattle.std.proofs.lemmas.Bool.{false≢true}
 use Rattle.asm_state.specs.code.Contents.{IsStateOf}
 use Rattle.asm_state.specs.Signature.{state_of}
-use Rattle.asm_state.specs.Updates.{UpdateSet, IsConsistent, is_consistent}
 use Rattle.asm_reader.specs.code.ExactLines.{exactly}
 use Rattle.asm_random.specs.Drafts.{draft_lines}
 use Rattle.asm_random.specs.FineRuns.{MayEnd}
-use Rattle.asm_random.specs.code.Replay.{GoesWrong, IsStep}
+use Rattle.asm_meaning.specs.Run.{IsStep}
+use Rattle.asm_random.specs.code.WrongSteps.{GoesWrong}
 use Rattle.asm_random.specs.code.ResolvedRuns.{IsDead, IsPassed, crowds_in, rests_in, right_in, shape_in, specification_in}
 use Rattle.asm_random.specs.declared.position.Position.{Position}
 use Rattle.asm_random.proofs.DraftRuns.{fine_grown, grown_longer}
@@ -56,7 +56,7 @@ loop-done-preserved c =
     record {
       kept = ok ended.field-0 next (λ (next : Position). IsStateOf shape next.state) c.in-Ok.is ended.ensures.step.kept;
       drawn = grown_longer d e done c.in_ok-chosen.ensures.adds i.drawn;
-      fine = fine_next spec m.turns (crowds_in m) (right_in m) (rests_in m) script done old grown (λ U good. (c.test_laws.ensures.consistency U).1 good) new step right passed;
+      fine = fine_next spec m.turns (crowds_in m) (right_in m) (rests_in m) script done old grown (c.run_laws.ensures spec m.turns script) new step right passed;
       looked = λ stays. subst (IsPassed m) (ap (state_of shape) (sym (same stays))) passed;
     }
 
@@ -73,9 +73,8 @@ returns-in-Err-clause-wrong c =
     let grown = fine_grown spec m.turns (crowds_in m) (right_in m) (rests_in m) d e done old c.in_ok-chosen.ensures.adds i.drawn i.fine in
     let wrong = err c.in_ok-next.field-0 c.in-Err.fault (GoesWrong spec m.turns script (right_in m) (IsDead m) (c.from.result + 1) old) c.in-Err.is c.in_ok-next.ensures.step.wrong in
     let numbered = subst (λ (k : ℕ). GoesWrong spec m.turns script (right_in m) (IsDead m) (k + 1) old c.in-Err.fault) c.from.ensures wrong in
-    let tests = c.test_laws.ensures.consistency in
-    fine_wrong spec m.turns (crowds_in m) (right_in m) (rests_in m) script done old grown (λ U good. (tests U).1 good) c.args.steps c.in-Err.fault
-    c.loop-done-test.true (λ U bad. false_from_ne_true (is_consistent U) (λ is. bad ((tests U).0 is))) numbered
+    fine_wrong spec m.turns (crowds_in m) (right_in m) (rests_in m) script done old grown (c.run_laws.ensures spec m.turns script) c.args.steps c.in-Err.fault
+    c.loop-done-test.true numbered
 
 pub returns-then-next-clause-fine : goal.returns-then-next-clause-fine
 returns-then-next-clause-fine c =
@@ -98,11 +97,11 @@ returns-then-next-clause-fine c =
     let stays = ok ended.field-0 next (λ (next : Position). next.stays ≡ true → next.state ≡ c.loop-done.at.state) c.in-Ok.is ended.ensures.stays in
     let same : new ≡ old = ap (state_of shape) (stays c.if-next.true) in
     let grown = fine_grown spec m.turns (crowds_in m) (right_in m) (rests_in m) d e done old c.in_ok-chosen.ensures.adds i.drawn i.fine in
-    let tests : (U : UpdateSet) → IsConsistent U → is_consistent U ≡ true = λ U good. (c.test_laws.ensures.consistency U).1 good in
-    let there = fine_next spec m.turns (crowds_in m) (right_in m) (rests_in m) script done old grown tests new step right passed in
+    let laws = c.run_laws.ensures spec m.turns script in
+    let there = fine_next spec m.turns (crowds_in m) (right_in m) (rests_in m) script done old grown laws new step right passed in
     let quiet = alike_quiet spec m.turns script (done + 1) old new step same (c.in_ok-chosen.ensures.alike c.if-not-chosen.true) in
     let low : done + 1 ≤ c.args.steps = omega (arith, c.loop-done-test.true) in
-    fine_run spec m.turns (crowds_in m) (right_in m) (rests_in m) script (done + 1) new there tests c.args.steps low
+    fine_run spec m.turns (crowds_in m) (right_in m) (rests_in m) script (done + 1) new there laws c.args.steps low
     (inr (subst (MayEnd spec m.turns (crowds_in m) (rests_in m)) (sym same) (quiet, passed)))
 
 pub returns-clause-fine : goal.returns-clause-fine
@@ -116,4 +115,4 @@ returns-clause-fine c =
     let here : steps ≤ steps = omega arith in
     fine_run spec m.turns (crowds_in m) (right_in m) (rests_in m) script steps A
     (subst (λ (k : ℕ). IsFineTo spec m.turns (crowds_in m) (right_in m) (rests_in m) script k A) all c.loop-done.invariant.fine)
-    (λ U good. (c.test_laws.ensures.consistency U).1 good) steps here (inl refl)
+    (c.run_laws.ensures spec m.turns script) steps here (inl refl)

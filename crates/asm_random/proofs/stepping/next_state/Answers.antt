@@ -10,7 +10,8 @@ use Rattle.asm_meaning.specs.code.FormedOutcomes.{IsFormed, IsSet}
 use Rattle.asm_meaning.specs.Program.{nothing_bound}
 use Rattle.asm_meaning.specs.code.TermValues.{shown}
 use Rattle.asm_explore.specs.declared.fault.Fault.TheVariants as fault
-use Rattle.asm_random.specs.code.Replay.{GoesWrong, IsStep}
+use Rattle.asm_meaning.specs.Run.{IsStep}
+use Rattle.asm_random.specs.code.WrongSteps.{GoesWrong}
 use Rattle.asm_random.specs.code.ResolvedRuns.{IsDead, right_in}
 use Rattle.asm_random.proofs.FirstFaults.{no_fault_found}
 use Rattle.asm_random.proofs.OneStep.{is_exhausted, is_faulty, leads_on}

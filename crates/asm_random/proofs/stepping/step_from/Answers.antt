@@ -2,7 +2,7 @@ use Rattle.std.proofs.Common.{◌≡◌, List, Ok, ap, subst, sym}
 use Rattle.std.specs.Prelude.{IfOk, Result}
 use Rattle.asm_state.specs.Signature.{state_of}
 use Rattle.asm_state.specs.declared.value.Value.{Value}
-use Rattle.asm_random.specs.code.Replay.{IsStep}
+use Rattle.asm_meaning.specs.Run.{IsStep}
 use Rattle.asm_random.specs.code.ResolvedRuns.{IsDead, shape_in, specification_in}
 use Rattle.asm_random.proofs.stepping.step_from.Goals as goal
 
