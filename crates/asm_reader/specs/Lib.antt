@@ -12,4 +12,5 @@ pub mod ScriptLines
 pub mod ScriptText
 pub mod ScriptRefusals
 pub mod OldScripts
+pub mod ExactLines
 pub mod code

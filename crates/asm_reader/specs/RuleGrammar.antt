@@ -4,7 +4,7 @@ use Rattle.asm_syntax.specs.declared.token.Kind.TheVariants.{Symbol, Keyword}
 use Rattle.asm_syntax.specs.declared.token.Symbol.TheVariants.{Assign, LeftArrow, Equal}
 use Rattle.asm_syntax.specs.declared.token.Keyword.TheVariants.{Skip, Par, EndPar, Seq, EndSeq, If, Then, Else, EndIf, Let, In, EndLet, Forall, With, Do, EndForall, Choose, IfNone, EndChoose, Iterate, EndIterate, While, EndWhile}
 use Rattle.asm_syntax.specs.SourceTree as source
-use Rattle.asm_syntax.specs.code.Views.{rules_of}
+use Rattle.asm_syntax.specs.SourceTree.{rules_of}
 use Rattle.asm_reader.specs.Productions.{Production, token, ◌then◌, ◌or◌, optional, ◌makes◌, nothing, past, several, between, at_any_depth}
 use Rattle.asm_reader.specs.TermGrammar.{name, binding, applied, result_name, answer, term_over, term_within}
 

@@ -13,7 +13,7 @@ use Rattle.std.specs.List.{list_all, list_any, slice_split}
 use Rattle.std.specs.Str.{bytes_eq}
 use Rattle.std.specs.Str.Lines.{strip_carriage_return}
 use Rattle.asm_syntax.specs.Tokens.{max_length}
-use Rattle.asm_syntax.specs.code.Fronts.{value_of}
+use Rattle.asm_syntax.specs.Tokens.{value_of}
 use Rattle.asm_reader.specs.ScriptLines.{SaidLine, ForStep, ForEvery, Script, script_of, is_line_of, is_line_at}
 use Rattle.asm_reader.specs.declared.script.ReadLine.{ReadLine}
 use Rattle.asm_reader.specs.declared.script.When.{When}

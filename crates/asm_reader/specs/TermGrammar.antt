@@ -11,7 +11,7 @@ use Rattle.asm_syntax.specs.declared.token.Token.{Token}
 use Rattle.asm_syntax.specs.declared.term.Literal.{Literal}
 use Rattle.asm_syntax.specs.declared.term.Literal.TheVariants as literal
 use Rattle.asm_syntax.specs.SourceTree as source
-use Rattle.asm_syntax.specs.code.Views.{terms_of, links_of}
+use Rattle.asm_syntax.specs.SourceTree.{terms_of, links_of}
 use Rattle.asm_reader.specs.Productions.{Production, token, ◌then◌, ◌or◌, optional, repeated, ◌makes◌, nothing, number, choice, past, separated, between, at_any_depth}
 
 -- ---- trees

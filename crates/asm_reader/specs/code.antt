@@ -1,5 +1,4 @@
 -- Bridge to the code. What connects the definitions of this crate to its code.
-pub mod ExactLines
 pub mod LinesSaid
 pub mod Parsing
 pub mod PathNumbers

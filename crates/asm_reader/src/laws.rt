@@ -10,7 +10,7 @@ ghost use Rattle.asm_reader.specs.OldScripts.{StillIsScript};
 ghost use Rattle.asm_reader.specs.Specification.{IsSpecification};
 ghost use Rattle.asm_reader.specs.Refusals.{IsRefusal};
 ghost use Rattle.asm_reader.specs.TermText.{IsTermText, IsTermRefusal};
-ghost use Rattle.asm_reader.specs.code.ExactLines.{exactly};
+ghost use Rattle.asm_reader.specs.ExactLines.{exactly};
 ghost use Rattle.asm_reader.specs.ScriptLines.{Line, EveryLine, Script, is_line_of, pick};
 ghost use Rattle.asm_reader.specs.ScriptText.{lines_of, line_of, is_skipped, IsScript, IsScriptRefusal};
 ghost use Rattle.asm_reader.specs.declared.script_error.ScriptError.{ScriptError};

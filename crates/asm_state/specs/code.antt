@@ -1,5 +1,4 @@
 -- Bridge to the code. What connects the definitions of this crate to its code.
-pub mod ByNumber
 pub mod CodeLocations
 pub mod Codes
 pub mod ConsecutiveCodes

@@ -4,11 +4,12 @@
 --                                 word `result`
 --     Rule, Rules, Branch         a rule;  a list of rules;  a rule that may be left out. A call
 --                                 may have the target of a `<-`
+--     terms_of, links_of, rules_of     the same as lists
 --     Const, Entry, Given         a constant of a table;  an entry, with the offset of its `(`;  a
 --                                 table
 --     Item, Spec                  a declaration or another line;  a specification, with the length
 --                                 of its text
-use Rattle.std.specs.Prelude.{ℕ, List, Option}
+use Rattle.std.specs.Prelude.{ℕ, List, [], ◌∷◌, Option}
 use Rattle.asm_state.specs.declared.number.Number.{Number}
 use Rattle.asm_state.specs.declared.operation.Op.{Op}
 use Rattle.asm_syntax.specs.declared.term.Literal.{Literal}
@@ -59,6 +60,18 @@ mutual
   pub data Branch : Type 0 where
     left_out : Branch
     written : Rule → Branch
+
+abbrev pub terms_of : List Term → Terms
+terms_of [] = no_terms
+terms_of (t ∷ ts) = term_then t (terms_of ts)
+
+abbrev pub links_of : List (Op × Term) → Links
+links_of [] = no_links
+links_of ((o, t) ∷ links) = link_then o t (links_of links)
+
+abbrev pub rules_of : List Rule → Rules
+rules_of [] = no_rules
+rules_of (P ∷ Ps) = rule_then P (rules_of Ps)
 
 pub data Const : Type 0 where
   Plain : Literal → Const

@@ -18,6 +18,12 @@ max_length = 1_048_576
 abbrev pub max_number : ℕ
 max_number = unsigned_abs greatest_number
 
+-- ---- numbers
+
+-- the value of digits after others of this value
+abbrev pub value_of : ℕ → List ℕ → ℕ
+value_of high digits = fold (λ v b. 10 * v + (b - 48)) high digits
+
 -- ---- bytes
 
 -- LF
@@ -153,3 +159,7 @@ HasNumberInRange t = (n : ℕ) → t.kind ≡ Number n → n ≤ max_number
 abbrev pub StandInOrder : ℕ → List Token → ℕ → Type 0
 StandInOrder at [] end = at ≤ end
 StandInOrder at (t ∷ ts) end = (at ≤ t.start) × (t.start < t.end) × StandInOrder t.end ts end
+
+-- after blanks and comments the text has a token, and no fault before it
+abbrev pub HasFirstToken : List ℕ → Type 0
+HasFirstToken text = (length text ≤ max_length) × (t : Token) × (end : ℕ) × (behind : List ℕ) × Begins 0 text (t ∷ []) end behind

@@ -12,7 +12,7 @@ use Rattle.asm_reader.specs.ScriptLines.{Line, ForStep, Script, script_of, is_li
 use Rattle.asm_reader.specs.ScriptText.{lines_of, number_of, path_of, step_with, when_of, line_with, line_of_fields, line_of, is_skipped, said, said_in, script_in, is_bad, is_repeated, says_again, AreFaultless}
 use Rattle.asm_reader.specs.declared.script.When.TheVariants.{Step, EveryStep}
 use Rattle.asm_reader.specs.OldScripts.{old_pick, old_line_with, old_line_of_fields, old_line_of, old_said, old_script_in, old_says_again, was_faulty, StillIsScript}
-use Rattle.asm_reader.specs.code.ExactLines.{exactly}
+use Rattle.asm_reader.specs.ExactLines.{exactly}
 use Rattle.asm_reader.proofs.ScriptLemmas.MoreLines.{pick_line}
 
 exact_script : (lines : List Line) → script_of (map ForStep lines) ≡ exactly lines

@@ -2,7 +2,7 @@
 use Rattle.std.proofs.Common.{◌≡◌, ℕ, Bool, true, false, cond, List, [], ◌∷◌, ◌++◌, Some, None, refl, ap, ◌∙◌}
 use Rattle.std.specs.Option.{option_or, unwrap_or}
 use Rattle.asm_reader.specs.ScriptLines.{Line, SaidLine, ForStep, ForEvery, Script, line_then, script_of, is_line_of, exact_choice, pick}
-use Rattle.asm_reader.specs.code.ExactLines.{exactly}
+use Rattle.asm_reader.specs.ExactLines.{exactly}
 use Rattle.asm_reader.specs.code.LinesSaid.{then_line}
 
 between : (first last : SaidLine) (script : Script) → line_then first (then_line script last) ≡ then_line (line_then first script) last

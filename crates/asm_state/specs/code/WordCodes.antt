@@ -10,7 +10,7 @@ use Rattle.asm_state.specs.declared.number.Number.{Number as WholeNumber}
 use Rattle.asm_state.specs.declared.value.Value.TheVariants.{Number, Element}
 use Rattle.asm_state.specs.Bounds.{least_number, greatest_number, code_of_zero, code_of_first_element}
 use Rattle.asm_state.specs.code.Codes.{number_code, code_of}
-use Rattle.asm_state.specs.code.ByNumber.{same_number, same_element}
+use Rattle.asm_state.specs.Value.{same_number, same_element}
 use Rattle.asm_state.specs.Numbers.{number_by_tests, number_with}
 use Rattle.asm_state.specs.Operation.{number_or_undef, value_or_undef}
 use Rattle.asm_state.specs.Universe.{element_by_test, element}

@@ -1,9 +1,10 @@
 -- Bridge to the code. What the functions of the lexer find at the front of a text.
-use Rattle.std.specs.Prelude.{◌≡◌, ◌≢◌, ℕ, suc, ◌+◌, ◌-◌, ◌*◌, ◌<◌, ◌⊎◌, Bool, false, ◌&&◌, nat_eq, if◌then◌else◌, List, [], ◌∷◌, ◌++◌, length, fold, codes, Option, Some, None, option_map}
+use Rattle.std.specs.Prelude.{◌≡◌, ◌≢◌, ℕ, suc, ◌+◌, ◌<◌, ◌⊎◌, Bool, false, ◌&&◌, nat_eq, if◌then◌else◌, List, [], ◌∷◌, ◌++◌, length, codes, Option, Some, None, option_map}
 use Rattle.std.specs.Char.{is_ascii_digit}
 use Rattle.asm_syntax.specs.declared.token.Kind.TheVariants as kind
 use Rattle.asm_syntax.specs.declared.front.Front.{Front}
 use Rattle.asm_syntax.specs.declared.front.Front.TheVariants.{Filler, Token, BadNumber, OpenComment, BadByte}
+pub use Rattle.asm_syntax.specs.Tokens.{value_of}
 use Rattle.asm_syntax.specs.Tokens.{max_number, newline, is_blank, is_letter, BeginsBy, StandsIn, IsLineComment, IsFiller, IsNumber, Spells, IsLongest, IsBadNumber, BeginsNothing}
 
 -- up to the first LF and with it
@@ -21,10 +22,6 @@ closes (a ∷ b ∷ bytes) = nat_eq a 42 && nat_eq b 47
 abbrev pub length_before_close : List ℕ → Option ℕ
 length_before_close [] = None
 length_before_close (a ∷ bytes) = if closes (a ∷ bytes) then Some 0 else option_map suc (length_before_close bytes)
-
--- the value of digits after others of this value
-abbrev pub value_of : ℕ → List ℕ → ℕ
-value_of high digits = fold (λ v b. 10 * v + (b - 48)) high digits
 
 -- the same value, or both are above the greatest number
 abbrev pub IsAsGreat : ℕ → ℕ → Type 0

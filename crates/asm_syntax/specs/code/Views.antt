@@ -1,8 +1,9 @@
 -- Bridge to the code. The source trees that the code's trees stand for.
-use Rattle.std.specs.Prelude.{List, [], ◌∷◌, map, Option, Some, None, option_map}
+use Rattle.std.specs.Prelude.{List, map, Option, Some, None, option_map}
 use Rattle.std.proofs.Common.{Box, Global}
 use Rattle.asm_state.specs.declared.operation.Op.{Op}
 use Rattle.asm_syntax.specs.SourceTree as source
+pub use Rattle.asm_syntax.specs.SourceTree.{terms_of, links_of, rules_of}
 use Rattle.asm_syntax.specs.declared.name.Name.{Name}
 use Rattle.asm_syntax.specs.declared.term.Term.{Term}
 use Rattle.asm_syntax.specs.declared.term.Term.TheOpen.{Term-F}
@@ -27,14 +28,6 @@ name_of n = record { at = n.at; text = n.text }
 
 -- ---- terms and rules: one layer, around the trees of its parts
 
-abbrev pub terms_of : List source.Term → source.Terms
-terms_of [] = source.no_terms
-terms_of (t ∷ ts) = source.term_then t (terms_of ts)
-
-abbrev pub links_of : List (Op × source.Term) → source.Links
-links_of [] = source.no_links
-links_of ((o, t) ∷ links) = source.link_then o t (links_of links)
-
 abbrev pub term_step : Term-F source.Term → source.Term
 term_step (term.Constant l) = source.Constant l
 term_step (term.Named name arguments) = source.Named (name_of name) (terms_of arguments.items)
@@ -47,10 +40,6 @@ term_step (term.Result name) = source.Result (name_of name)
 
 abbrev pub term_of : Term → source.Term
 term_of = fold-Term source.Term term_step
-
-abbrev pub rules_of : List source.Rule → source.Rules
-rules_of [] = source.no_rules
-rules_of (P ∷ Ps) = source.rule_then P (rules_of Ps)
 
 abbrev pub branch_of : Option (Box source.Rule Global) → source.Branch
 branch_of None = source.left_out

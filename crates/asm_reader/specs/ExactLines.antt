@@ -1,4 +1,4 @@
--- Bridge to the code. Scripts whose lines are all for one step each.
+-- Definition. Scripts whose lines are all for one step each.
 --     exactly lines      the script with these lines, and with none for every step
 use Rattle.std.specs.Prelude.{List, []}
 use Rattle.asm_reader.specs.ScriptLines.{Line, Script}
