@@ -1,4 +1,5 @@
 -- Bridge to the code. What connects the definitions of this crate to its code.
+pub mod BoundValues
 pub mod CodeRanges
 pub mod CodeTree
 pub mod CodeViews

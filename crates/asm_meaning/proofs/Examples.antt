@@ -323,7 +323,7 @@ abbrev story_by : Script → Path → Rule → Story
 story_by script p R = tells sample 1 script 1 start nothing_bound p R
 
 parts_in_their_order : story_by no_lines [] (Par (two_rules (Assign (codes "x") no_terms (name (codes "y"))) (Assign (codes "y") no_terms (name (codes "x")))))
-    ≡ Beside (Assigns (0 ∷ []) at_x (number (pos 2))) (Beside (Assigns (1 ∷ []) at_y (number (pos 1))) Silent)
+    ≡ Beside (Assigns (0 ∷ []) at_x (number (pos 2)) [] []) (Beside (Assigns (1 ∷ []) at_y (number (pos 1)) [] []) Silent)
 unfolding tells tells_within telling value values reading reading_within readings_of number_with
 parts_in_their_order = refl
 
@@ -333,35 +333,41 @@ unfolding tells tells_within telling value values reading reading_within reading
 an_idle_choice = refl
 
 the_choice_of_a_part : story_by (one_line (0 ∷ 1 ∷ [])) (0 ∷ []) (Par (two_rules Skip some_number))
-    ≡ Beside Silent (Beside (Chooses (0 ∷ 1 ∷ []) 1 three (Assigns (0 ∷ 1 ∷ 0 ∷ []) at_x (number (pos 1)))) Silent)
+    ≡ Beside Silent (Beside (Chooses (0 ∷ 1 ∷ []) 1 three (Assigns (0 ∷ 1 ∷ 0 ∷ []) at_x (number (pos 1)) [] (number (pos 1) ∷ []))) Silent)
 unfolding tells tells_within telling value values reading reading_within readings_of number_with
 the_choice_of_a_part = refl
 
 -- an element for which the condition doesn't hold isn't told, and the others keep their numbers
 elements_by_number : story_by no_lines [] (Forall (codes "i") (codes "Idx") (Some (greater (name (codes "i")) (constant (pos 1)))) (Assign (codes "x") no_terms (name (codes "i"))))
-    ≡ Beside (Instance (Assigns (2 ∷ []) at_x (number (pos 2)))) Silent
+    ≡ Beside (Instance (Assigns (2 ∷ []) at_x (number (pos 2)) [] (number (pos 2) ∷ []))) Silent
 unfolding tells tells_within telling value values reading reading_within readings_of number_with
 elements_by_number = refl
 
 -- an update of a stray location is one, and one of no location is none
-stray_is_told : story_by no_lines [] (Assign (codes "f") (of_one (constant (pos 9))) (constant (pos 1))) ≡ Assigns [] (Stray 0) (number (pos 1))
+stray_is_told : story_by no_lines [] (Assign (codes "f") (of_one (constant (pos 9))) (constant (pos 1))) ≡ Assigns [] (Stray 0) (number (pos 1)) (number (pos 9) ∷ []) []
 unfolding tells tells_within telling value values reading reading_within readings_of number_with
 stray_is_told = refl
+
+-- `result` for a stray location has the arguments that the call's target has
+a_target_keeps_its_arguments : story_by no_lines [] (answers (codes "f") (of_one (constant (pos 9))) (codes "give") (of_one (constant (pos 1))))
+    ≡ Assigns (0 ∷ []) (Stray 0) (number (pos 1)) (number (pos 9) ∷ []) (number (pos 1) ∷ [])
+unfolding tells tells_within telling value values reading reading_within readings_of number_with
+a_target_keeps_its_arguments = refl
 
 nowhere_is_silent : story_by no_lines [] (Assign answer no_terms (constant (pos 1))) ≡ Silent
 unfolding tells tells_within telling value values reading reading_within readings_of number_with
 nowhere_is_silent = refl
 
-the_body_is_below_the_call : story_by no_lines [] (answers (codes "x") no_terms (codes "raise") (of_one (constant (pos 3)))) ≡ Assigns (0 ∷ []) at_x (number (pos 4))
+the_body_is_below_the_call : story_by no_lines [] (answers (codes "x") no_terms (codes "raise") (of_one (constant (pos 3)))) ≡ Assigns (0 ∷ []) at_x (number (pos 4)) [] (number (pos 3) ∷ [])
 unfolding tells tells_within telling value values reading reading_within readings_of number_with
 the_body_is_below_the_call = refl
 
 in_their_order : story_by no_lines [] (Seq (two_rules (Assign (codes "x") no_terms (constant (pos 1))) (Assign (codes "x") no_terms (constant (pos 2)))))
-    ≡ Then (Assigns (0 ∷ []) at_x (number (pos 1))) (Then (Assigns (1 ∷ []) at_x (number (pos 2))) Silent)
+    ≡ Then (Assigns (0 ∷ []) at_x (number (pos 1)) [] []) (Then (Assigns (1 ∷ []) at_x (number (pos 2)) [] []) Silent)
 unfolding tells tells_within telling value values reading reading_within readings_of number_with
 in_their_order =
-    let s : Story = Assigns (0 ∷ []) at_x (number (pos 1)) in
-    let t : Story = Assigns (1 ∷ []) at_x (number (pos 2)) in
+    let s : Story = Assigns (0 ∷ []) at_x (number (pos 1)) [] [] in
+    let t : Story = Assigns (1 ∷ []) at_x (number (pos 2)) [] [] in
     (λ i. cond (passes 1 [] (number (pos 1)) i) (Then s (cond (passes 1 [] (number (pos 2)) i) (Then t Silent) t)) s)
 
 -- nothing comes after a part with a fault
@@ -372,18 +378,19 @@ stray_fails f v =
       | false ↦ λ e. refl
     ] refl
 
-nothing_after_a_fault : story_by no_lines [] (Seq (two_rules (Assign (codes "f") (of_one (constant (pos 9))) (constant (pos 1))) some_number)) ≡ Assigns (0 ∷ []) (Stray 0) (number (pos 1))
+nothing_after_a_fault : story_by no_lines [] (Seq (two_rules (Assign (codes "f") (of_one (constant (pos 9))) (constant (pos 1))) some_number))
+    ≡ Assigns (0 ∷ []) (Stray 0) (number (pos 1)) (number (pos 9) ∷ []) []
 unfolding tells tells_within telling value values reading reading_within readings_of number_with
 nothing_after_a_fault =
-    let s : Story = Assigns (0 ∷ []) (Stray 0) (number (pos 1)) in
-    ap (λ b. cond b (Then s (cond (is_consistent (one at_x (number (pos 0)))) (Then (Chooses (1 ∷ []) 0 three (Assigns (1 ∷ 0 ∷ []) at_x (number (pos 0)))) Silent) (Chooses (1 ∷ []) 0 three (Assigns (1 ∷ 0 ∷ []) at_x (number (pos 0)))))) s)
+    let s : Story = Assigns (0 ∷ []) (Stray 0) (number (pos 1)) (number (pos 9) ∷ []) [] in
+    ap (λ b. cond b (Then s (cond (is_consistent (one at_x (number (pos 0)))) (Then (Chooses (1 ∷ []) 0 three (Assigns (1 ∷ 0 ∷ []) at_x (number (pos 0)) [] (number (pos 0) ∷ []))) Silent) (Chooses (1 ∷ []) 0 three (Assigns (1 ∷ 0 ∷ []) at_x (number (pos 0)) [] (number (pos 0) ∷ []))))) s)
     (stray_fails 0 (number (pos 1)))
 
 -- with a limit of one, the turn that has a set is the last one
-one_turn_is_told : (p : Path) → story_by no_lines p repeated ≡ Then (Assigns (at p 0) at_x (number (pos 1))) (Exhausts p)
+one_turn_is_told : (p : Path) → story_by no_lines p repeated ≡ Then (Assigns (at p 0) at_x (number (pos 1)) [] []) (Exhausts p)
 unfolding tells tells_within telling value values reading reading_within readings_of number_with
 one_turn_is_told p =
-    let s : Story = Assigns (at p 0) at_x (number (pos 1)) in
+    let s : Story = Assigns (at p 0) at_x (number (pos 1)) [] [] in
     (λ i. cond (has_one (number (pos 1)) i || not (passes 1 [] (number (pos 1)) i)) s (Then s (Exhausts p)))
 
 -- ---- the least of paths

@@ -18,7 +18,7 @@ use Rattle.asm_meaning.specs.Ranks.{CallsBelow, IsRanked}
 use Rattle.asm_meaning.specs.Run.{End, AtLimit, AtExhausted, AtFault, Run, sets_of, ended, fired, IsRunFrom, at_limit, at_exhausted, at_fault, step_then, step_and, run_from, ScriptedRuns, FreeRuns}
 use Rattle.asm_meaning.proofs.ChoiceLemmas.ScriptedIsFree.{by_test, scripted_is_free}
 use Rattle.asm_meaning.proofs.ChoiceLemmas.FreeHasScript.{has_script, not_true}
-use Rattle.asm_reader.specs.code.ExactLines.{exactly}
+use Rattle.asm_reader.specs.ExactLines.{exactly}
 use Rattle.asm_reader.proofs.ScriptLemmas.MoreLines.{pick_line}
 use Rattle.asm_meaning.proofs.ChoiceLemmas.UnrepeatedScripts.{unrepeated_script}
 

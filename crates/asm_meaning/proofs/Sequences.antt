@@ -16,7 +16,7 @@ use Rattle.asm_state.proofs.UpdateLemmas.Members.{member_laws}
 use Rattle.asm_state.proofs.UpdateLemmas.Updates.{test_laws}
 use Rattle.asm_updates.specs.code.SummaryRanges.{SummaryRanges}
 use Rattle.asm_updates.specs.code.Stands.{Stands}
-use Rattle.asm_meaning.specs.Does.{Outcome, nothing, following, part_and, turn_and}
+use Rattle.asm_meaning.specs.Does.{Outcome, following, part_and, turn_and}
 use Rattle.asm_meaning.specs.code.FormedOutcomes.{Forms, IsMergedPart, IsStoppedAt, greatest_count}
 use Rattle.asm_meaning.specs.code.PartSets.{IsPartSet, ends_parts, ends_turns}
 use Rattle.asm_meaning.specs.Yields.{Path, Gives, Exhausted, after}

@@ -6,8 +6,8 @@ use Rattle.asm_state.specs.Updates.{UpdateSet, is_consistent, is_none, fire}
 use Rattle.asm_syntax.specs.Tree.{Name, Terms, Rule, Skip, Assign, Call, Par, Seq, If, Let, Forall, Choose, Iterate, Rules, no_rules, rule_then}
 use Rattle.asm_reader.specs.ScriptLines.{Script, pick}
 use Rattle.asm_meaning.specs.Program.{Program, Declared, NamedRule, declared, Environment, with_value, bind_terms}
-use Rattle.asm_meaning.specs.Targets.{location, update, answering}
-use Rattle.asm_meaning.specs.Value.{value, holds, candidates, universe}
+use Rattle.asm_meaning.specs.Targets.{location, arguments, update, answering}
+use Rattle.asm_meaning.specs.Value.{value, bound_values, holds, candidates, universe}
 use Rattle.asm_meaning.specs.Yields.{Path, at, Result, Gives, Exhausted}
 use Rattle.asm_meaning.specs.Does.{Outcome, Meaning, both, counted, following, part_and, turn_and, parts, in_order, each, one_of, turns_of, called, meaning, meanings, does_within, does}
 use Rattle.asm_meaning.specs.Ranks.{IsRanked, CallsBelow, EachCallsBelow}
@@ -38,9 +38,9 @@ module _ (s : Story) (rest : UpdateSet → Story) (other : UpdateSet → Outcome
   turn_yields (Exhausted q) n is = is
   turn_yields (Gives U) n is = unless_it_ends U n is (is_none U || not (is_consistent U))
 
-target_yields : (p : Path) (l : Option Location) (v : Value) → outcome_of (target_tells p l v) ≡ record { result = Gives (update l v); instances = 0 }
-target_yields p None v = refl
-target_yields p (Some l) v = refl
+target_yields : (p : Path) (l : Option Location) (v : Value) (ws bs : List Value) → outcome_of (target_tells p l v ws bs) ≡ record { result = Gives (update l v); instances = 0 }
+target_yields p None v ws bs = refl
+target_yields p (Some l) v ws bs = refl
 
 parts_yield : (ms : List Telling) (k : ℕ) (A : State) (e : Environment) (p : Path) → outcome_of (parts_tell ms k A e p) ≡ parts (map yields ms) k A e p
 parts_yield [] k A e p = refl
@@ -105,7 +105,7 @@ module _ (program : Program) (turns : ℕ) (chosen : Path → ℕ) (tells_of : R
 
     rule_yields : (R : Rule) → yields (telling program turns chosen tells_of R) ≡ meaning program turns chosen does_of R
     rule_yields Skip = refl
-    rule_yields (Assign f ts t) = λ i A e p. target_yields p (location program A e f ts) (value program A e t) i
+    rule_yields (Assign f ts t) = λ i A e p. target_yields p (location program A e f ts) (value program A e t) (arguments program A e f ts) (bound_values program A e) i
     rule_yields (Call to f ts) = λ i A e p. call_yields (declared program f) to ts A e p i
     rule_yields (Par Ps) = λ i A e p. (parts_yield (tellings program turns chosen tells_of Ps) 0 A e p ∙ ap (λ ms. parts ms 0 A e p) (rules_yield Ps)) i
     rule_yields (Seq Ps) = λ i A e p. (order_yields (tellings program turns chosen tells_of Ps) 0 A e p ∙ ap (λ ms. in_order ms 0 A e p) (rules_yield Ps)) i

@@ -7,7 +7,7 @@ use Rattle.asm_state.specs.declared.value.Value.{Value}
 use Rattle.asm_state.specs.Location.{State}
 use Rattle.asm_state.specs.Updates.{UpdateSet, is_consistent, is_none, fire}
 use Rattle.asm_syntax.specs.Tree.{Name, Terms, Rule, Skip, Assign, Call, Par, Seq, If, Let, Forall, Choose, Iterate, Rules, no_rules, rule_then}
-use Rattle.asm_reader.specs.ScriptLines.{Script, pick}
+use Rattle.asm_reader.specs.ScriptLines.{pick}
 use Rattle.asm_meaning.specs.Program.{Program, Declared, NamedRule, declared, Environment, with_value, bind_terms}
 use Rattle.asm_meaning.specs.Targets.{answering}
 use Rattle.asm_meaning.specs.Value.{value, holds, candidates, universe, nesting}

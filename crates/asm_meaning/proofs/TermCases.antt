@@ -94,7 +94,7 @@ module _ (program : Program) where
   reading_at None = None
   reading_at (Some (ToValue v)) = Some (λ _. v)
   reading_at (Some (ToTerm t caller)) = Some (λ A. value program A caller t)
-  reading_at (Some (ToLocation l)) = Some (λ A. read A l)
+  reading_at (Some (ToLocation l ws)) = Some (λ A. read A l)
 
   look_up_readings : (e : Environment) (x : Name) → look_up (readings_of program e) x ≡ reading_at (bound_to e x)
   unfolding readings_of value
@@ -109,8 +109,8 @@ module _ (program : Program) where
         | true ↦ refl
         | false ↦ look_up_readings e x
       ]
-  look_up_readings (with_location y l e) x =
-      elim (is_name y x) as (λ b. cond b (Some (λ A. read A l)) (look_up (readings_of program e) x) ≡ reading_at (cond b (Some (ToLocation l)) (bound_to e x))) [
+  look_up_readings (with_location y l ws e) x =
+      elim (is_name y x) as (λ b. cond b (Some (λ A. read A l)) (look_up (readings_of program e) x) ≡ reading_at (cond b (Some (ToLocation l ws)) (bound_to e x))) [
         | true ↦ refl
         | false ↦ look_up_readings e x
       ]
@@ -167,7 +167,7 @@ valued_by_cases program rank A e ranked = record {
   of_constant = λ v. refl;
   of_value = λ x ts v is. of_bound program A e x ts (ToValue v) is;
   of_term = λ x ts t caller is. of_bound program A e x ts (ToTerm t caller) is;
-  of_location = λ x ts l is. of_bound program A e x ts (ToLocation l) is;
+  of_location = λ x ts l ws is. of_bound program A e x ts (ToLocation l ws) is;
   of_element = λ x ts v free d. of_declared program A e x ts (Enumerated v) free d;
   of_controlled = λ x ts f domain free d. of_declared program A e x ts (Controlled f domain) free d;
   of_static = λ x ts domain table free d. of_declared program A e x ts (Static domain table) free d;

@@ -71,8 +71,8 @@ unbound (with_term y t caller e) x free =
       | true ↦ λ h. cc
       | false ↦ λ h. unbound e x h
     ] free
-unbound (with_location y l e) x free =
-    elim (is_name y x) as (λ b. ◌≡◌ {A = Option Binding} (cond b (Some (ToLocation l)) (bound_to e x)) None → (b || is_among (names_of e) x) ≡ false) [
+unbound (with_location y l ws e) x free =
+    elim (is_name y x) as (λ b. ◌≡◌ {A = Option Binding} (cond b (Some (ToLocation l ws)) (bound_to e x)) None → (b || is_among (names_of e) x) ≡ false) [
       | true ↦ λ h. cc
       | false ↦ λ h. unbound e x h
     ] free
@@ -94,8 +94,8 @@ module _ (program : Program) where
         | true ↦ λ h. cc
         | false ↦ λ h. load_bounds e x t caller h
       ] is
-  load_bounds (with_location y l e) x t caller is =
-      elim (is_name y x) as (λ b. cond b (Some (ToLocation l)) (bound_to e x) ≡ Some (ToTerm t caller) → size_within program nesting t (names_of caller) + load program caller ≤ load program e) [
+  load_bounds (with_location y l ws e) x t caller is =
+      elim (is_name y x) as (λ b. cond b (Some (ToLocation l ws)) (bound_to e x) ≡ Some (ToTerm t caller) → size_within program nesting t (names_of caller) + load program caller ≤ load program e) [
         | true ↦ λ h. cc
         | false ↦ λ h. load_bounds e x t caller h
       ] is

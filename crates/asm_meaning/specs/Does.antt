@@ -1,5 +1,6 @@
 -- Definition. What a rule yields under a script.
 --     Outcome               what a rule yields, with the number of instances
+--     greatest_count        the greatest number of instances that is shown
 --     does program turns script step A e p R      the outcome of R, if a choose with n candidates
 --                                                 takes the one whose number is the script's at its
 --                                                 path, modulo n
@@ -17,6 +18,10 @@ use Rattle.asm_meaning.specs.Yields.{Path, at, Result, Gives, Exhausted, beside,
 pub record Outcome : Type 0 where
   pub result : Result
   pub instances : ℕ
+
+-- the number of instances that is shown is cut off if it doesn't fit 64 bits
+abbrev pub greatest_count : ℕ
+greatest_count = 18_446_744_073_709_551_615
 
 abbrev outcome : Result → ℕ → Outcome
 outcome r n = record { result = r; instances = n }

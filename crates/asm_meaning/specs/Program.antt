@@ -1,9 +1,9 @@
 -- Definition. What a specification declares, and what names are bound to.
 --     Program, Declared         the declarations, by name;  declared p x      what x is declared as
 --     Environment               names bound to values, to terms with the environment of their
---                               caller, or to locations
+--                               caller, or to locations, each with the arguments that its target has
 --     bind_terms, bind_values   the parameters alone, bound to terms of a caller, or to values
---     located                   `result` bound to a location, if there is one
+--     located                   `result` bound to a location, with its arguments, if there is one
 use Rattle.std.specs.Prelude.{ℕ, Bool, cond, List, [], ◌∷◌, nat_eq, Option, Some, None}
 use Rattle.std.specs.Cmp.Lexicographic.{pointwise}
 use Rattle.asm_state.specs.declared.function.Table.{Table}
@@ -39,7 +39,7 @@ pub data Environment : Type 0 where
   nothing_bound : Environment
   with_value : Name → Value → Environment → Environment
   with_term : Name → Term → (caller : Environment) → Environment → Environment
-  with_location : Name → Location → Environment → Environment
+  with_location : Name → Location → (arguments : List Value) → Environment → Environment
 
 -- the parameters alone, bound to the caller's terms
 abbrev pub bind_terms : List Name → Terms → (caller : Environment) → Environment
@@ -54,18 +54,18 @@ bind_values (x ∷ xs) [] = with_value x Undef (bind_values xs [])
 bind_values (x ∷ xs) (v ∷ vs) = with_value x v (bind_values xs vs)
 
 -- `result` bound to the location of the call's target, if the target names one
-abbrev pub located : Option Location → Environment → Environment
-located None e = e
-located (Some l) e = with_location result l e
+abbrev pub located : Option Location → (arguments : List Value) → Environment → Environment
+located None ws e = e
+located (Some l) ws e = with_location result l ws e
 
 -- what a name is bound to
 pub data Binding : Type 0 where
   ToValue : Value → Binding
   ToTerm : Term → (caller : Environment) → Binding
-  ToLocation : Location → Binding
+  ToLocation : Location → (arguments : List Value) → Binding
 
 abbrev pub bound_to : Environment → Name → Option Binding
 bound_to nothing_bound x = None
 bound_to (with_value y v e) x = cond (is_name y x) (Some (ToValue v)) (bound_to e x)
 bound_to (with_term y t caller e) x = cond (is_name y x) (Some (ToTerm t caller)) (bound_to e x)
-bound_to (with_location y l e) x = cond (is_name y x) (Some (ToLocation l)) (bound_to e x)
+bound_to (with_location y l ws e) x = cond (is_name y x) (Some (ToLocation l ws)) (bound_to e x)

@@ -1,5 +1,6 @@
 -- Definition. What happens in a rule under a script, told as a story.
---     Story                   nothing; an update, with the path of its assignment; what is chosen
+--     Story                   nothing; an update, with the path of its assignment, the values of its
+--                             target's arguments, and those of what is bound there; what is chosen
 --                             at a path, of which candidates, and what happens then; an instance
 --                             of a forall; two stories beside each other; a part of a sequence, or
 --                             a turn, and what comes after it; the end at a path that is exhausted
@@ -14,14 +15,14 @@ use Rattle.asm_syntax.specs.Tree.{Name, Terms, Rule, Skip, Assign, Call, Par, Se
 use Rattle.asm_reader.specs.ScriptLines.{Script, pick}
 use Rattle.asm_meaning.specs.Program.{Program, Declared, NamedRule, declared, Environment, nothing_bound, with_value, bind_terms}
 use Rattle.asm_meaning.specs.Run.{Specification}
-use Rattle.asm_meaning.specs.Targets.{location, answering}
-use Rattle.asm_meaning.specs.Value.{value, holds, candidates, universe, nesting}
+use Rattle.asm_meaning.specs.Targets.{location, arguments, answering}
+use Rattle.asm_meaning.specs.Value.{value, bound_values, holds, candidates, universe, nesting}
 use Rattle.asm_meaning.specs.Yields.{Path, at, Result, Gives, Exhausted}
 use Rattle.asm_meaning.specs.Does.{Outcome, nothing, both, counted, following}
 
 pub data Story : Type 0 where
   Silent : Story
-  Assigns : Path → Location → Value → Story
+  Assigns : Path → Location → Value → (arguments bound : List Value) → Story
   Chooses : Path → (number : ℕ) → (candidates : List Value) → Story → Story
   Instance : Story → Story
   Beside : Story → Story → Story
@@ -35,7 +36,7 @@ and_then (Gives U) n rest = following U n rest
 
 abbrev pub outcome_of : Story → Outcome
 outcome_of Silent = nothing
-outcome_of (Assigns p l v) = record { result = Gives (one l v); instances = 0 }
+outcome_of (Assigns p l v ws bs) = record { result = Gives (one l v); instances = 0 }
 outcome_of (Chooses p k vs s) = outcome_of s
 outcome_of (Instance s) = counted (outcome_of s)
 outcome_of (Beside s t) = both (outcome_of s) (outcome_of t)
@@ -47,9 +48,9 @@ abbrev pub Telling : Type 0
 Telling = State → Environment → Path → Story
 
 -- an update of the location that a target names, if it names one
-abbrev pub target_tells : Path → Option Location → Value → Story
-target_tells p None v = Silent
-target_tells p (Some l) v = Assigns p l v
+abbrev pub target_tells : Path → Option Location → Value → (arguments bound : List Value) → Story
+target_tells p None v ws bs = Silent
+target_tells p (Some l) v ws bs = Assigns p l v ws bs
 
 -- a part of a sequence that yields this, and what comes after it
 abbrev pub part_then : Result → Story → (UpdateSet → Story) → Story
@@ -100,7 +101,7 @@ module _ (program : Program) (turns : ℕ) (chosen : Path → ℕ) (body : Rule 
   unfoldable mutual
     pub telling : Rule → Telling
     telling Skip A e p = Silent
-    telling (Assign f ts t) A e p = target_tells p (location program A e f ts) (value program A e t)
+    telling (Assign f ts t) A e p = target_tells p (location program A e f ts) (value program A e t) (arguments program A e f ts) (bound_values program A e)
     telling (Call to f ts) A e p = called_tells (declared program f) to ts A e p
     telling (Par Ps) A e p = parts_tell (tellings Ps) 0 A e p
     telling (Seq Ps) A e p = order_tells (tellings Ps) 0 A e p

@@ -11,8 +11,8 @@ use Rattle.asm_state.specs.declared.value.Value.{Value}
 use Rattle.asm_syntax.specs.Tree.{Name, Term, Terms, Rule, Skip, Assign, Call, Par, Seq, If, Let, Forall, Choose, Iterate, Rules, no_rules, rule_then}
 use Rattle.asm_reader.specs.ScriptLines.{Script, pick}
 use Rattle.asm_meaning.specs.Program.{Program, NamedRule, declared, Environment, with_value, bind_terms}
-use Rattle.asm_meaning.specs.Targets.{location, update, answering}
-use Rattle.asm_meaning.specs.Value.{value, holds, candidates, universe, nesting}
+use Rattle.asm_meaning.specs.Targets.{location, arguments, update, answering}
+use Rattle.asm_meaning.specs.Value.{value, bound_values, holds, candidates, universe, nesting}
 use Rattle.asm_meaning.specs.Yields.{Path, at, Gives}
 use Rattle.asm_meaning.specs.Does.{Meaning, parts, in_order, each, one_of, turns_of, does}
 use Rattle.asm_meaning.specs.Ranks.{IsRanked}
@@ -27,7 +27,7 @@ abbrev pub yields : Telling → Meaning
 yields m A e p = outcome_of (m A e p)
 
 pub record StoryLaws : Type 0 where
-  pub of_target : (p : Path) (l : Option Location) (v : Value) → outcome_of (target_tells p l v) ≡ record { result = Gives (update l v); instances = 0 }
+  pub of_target : (p : Path) (l : Option Location) (v : Value) (ws bs : List Value) → outcome_of (target_tells p l v ws bs) ≡ record { result = Gives (update l v); instances = 0 }
   pub of_parts : (ms : List Telling) (k : ℕ) (A : State) (e : Environment) (p : Path) → outcome_of (parts_tell ms k A e p) ≡ parts (map yields ms) k A e p
   pub of_order : (ms : List Telling) (k : ℕ) (A : State) (e : Environment) (p : Path) → outcome_of (order_tells ms k A e p) ≡ in_order (map yields ms) k A e p
   pub of_each : (m : Value → ℕ → Story) (test : Value → Bool) (k : ℕ) (vs : List Value) → outcome_of (each_tells m test k vs) ≡ each (λ v k. outcome_of (m v k)) test k vs
@@ -46,7 +46,7 @@ all_told program turns script step (rule_then P Ps) = told program turns script 
 pub record ToldCases (program : Program) (turns : ℕ) (script : Script) (step : ℕ) (rank : Name → ℕ) : Type 0 where
   pub of_skip : (A : State) (e : Environment) (p : Path) → told program turns script step Skip A e p ≡ Silent
   pub of_assign : (f : Name) (ts : Terms) (t : Term) (A : State) (e : Environment) (p : Path)
-      → told program turns script step (Assign f ts t) A e p ≡ target_tells p (location program A e f ts) (value program A e t)
+      → told program turns script step (Assign f ts t) A e p ≡ target_tells p (location program A e f ts) (value program A e t) (arguments program A e f ts) (bound_values program A e)
   pub of_call : (to : Option (Name × Terms)) (f : Name) (ts : Terms) (xs : List Name) (P : Rule) (A : State) (e : Environment) (p : Path)
       → declared program f ≡ Some (NamedRule xs P) → rank f < nesting
       → told program turns script step (Call to f ts) A e p ≡ told program turns script step P A (answering program A e to (bind_terms xs ts e)) (at p 0)
@@ -76,7 +76,7 @@ ToldByCases =
 
 abbrev pub PicksAs : (Path → ℕ) → Story → Type 0
 PicksAs chosen Silent = Unit {0}
-PicksAs chosen (Assigns p l v) = Unit {0}
+PicksAs chosen (Assigns p l v ws bs) = Unit {0}
 PicksAs chosen (Chooses p k vs s) = (chosen p % length vs ≡ k % length vs) × PicksAs chosen s
 PicksAs chosen (Instance s) = PicksAs chosen s
 PicksAs chosen (Beside s t) = PicksAs chosen s × PicksAs chosen t

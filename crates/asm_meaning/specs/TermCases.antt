@@ -27,7 +27,7 @@ pub record TermCases (program : Program) (rank : Name → ℕ) (A : State) (e : 
   pub of_term : (x : Name) (ts : Terms) (t : Term) (caller : Environment) → bound_to e x ≡ Some (ToTerm t caller)
       → value program A e (Named x ts) ≡ value program A caller t
   -- one that stands for a location has the content there
-  pub of_location : (x : Name) (ts : Terms) (l : Location) → bound_to e x ≡ Some (ToLocation l) → value program A e (Named x ts) ≡ read A l
+  pub of_location : (x : Name) (ts : Terms) (l : Location) (ws : List Value) → bound_to e x ≡ Some (ToLocation l ws) → value program A e (Named x ts) ≡ read A l
   -- other names are declared
   pub of_element : (x : Name) (ts : Terms) (v : Value) → bound_to e x ≡ None → declared program x ≡ Some (Enumerated v) → value program A e (Named x ts) ≡ v
   pub of_controlled : (x : Name) (ts : Terms) (f : ℕ) (domain : Domain) → bound_to e x ≡ None → declared program x ≡ Some (Controlled f domain)

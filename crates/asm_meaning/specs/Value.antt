@@ -2,6 +2,8 @@
 --     value program A e t      a name bound to a term has the value of that term in the caller's
 --                              environment, in the same state; one bound to a location has the
 --                              content there
+--     bound_values program A e     the values of what is bound, the innermost first, but for what is
+--                              bound to a location
 --     holds, candidates        whether a condition has the value true;  the elements of a universe
 --                              for which it has
 use Rattle.std.specs.Prelude.{ℕ, zero, suc, Bool, true, false, List, [], ◌∷◌, Option, Some, None}
@@ -100,7 +102,7 @@ readings_of program nothing_bound = []
 readings_of program (with_value x v e) = (x, λ _. v) ∷ readings_of program e
 readings_of program (with_term x t caller e) =
     (x, λ A. reading_within program nesting t (readings_of program caller) A) ∷ readings_of program e
-readings_of program (with_location x l e) = (x, λ A. read A l) ∷ readings_of program e
+readings_of program (with_location x l ws e) = (x, λ A. read A l) ∷ readings_of program e
 
 unfoldable pub value : Program → State → Environment → Term → Value
 value program A e t = reading_within program nesting t (readings_of program e) A
@@ -108,6 +110,12 @@ value program A e t = reading_within program nesting t (readings_of program e) A
 unfoldable pub values : Program → State → Environment → Terms → List Value
 values program A e no_terms = []
 values program A e (term_then t ts) = value program A e t ∷ values program A e ts
+
+abbrev pub bound_values : Program → State → Environment → List Value
+bound_values program A nothing_bound = []
+bound_values program A (with_value x v e) = v ∷ bound_values program A e
+bound_values program A (with_term x t caller e) = value program A caller t ∷ bound_values program A e
+bound_values program A (with_location x l ws e) = bound_values program A e
 
 -- a condition holds if its value is true, or if there is none
 abbrev pub holds : Program → State → Environment → Option Term → Bool

@@ -27,7 +27,7 @@ use Rattle.asm_resolve.proofs.StandingPositions.{stands_nothing}
 
 abbrev IsSilent : Story → Type 0
 IsSilent Silent = Unit {0}
-IsSilent (Assigns p l v) = ⊥
+IsSilent (Assigns p l v ws bs) = ⊥
 IsSilent (Chooses p k vs s) = ⊥
 IsSilent (Instance s) = ⊥
 IsSilent (Beside s t) = ⊥
@@ -36,7 +36,7 @@ IsSilent (Exhausts p) = ⊥
 
 -- what the first of two stories assigns
 abbrev first_assigned : Story → Option (Location × Value)
-first_assigned (Assigns p l v) = Some (l, v)
+first_assigned (Assigns p l v ws bs) = Some (l, v)
 first_assigned (Beside s t) = first_assigned s
 first_assigned Silent = None
 first_assigned (Chooses p k vs s) = None
@@ -57,7 +57,7 @@ module _ (program : Program) (rank : Name → ℕ) (ranked : IsRanked program ra
       let story : Value → Story = λ v. tells program 0 no_lines 1 undefined (with_value x v nothing_bound) (at [] 0) tree.Skip in
       let other : Story = tells program 0 no_lines 1 undefined nothing_bound (at [] 1) tree.Skip in
       let told : Silent ≡ one_tells [] (pick no_lines 1 []) (filter (λ w. holds program undefined (with_value x w nothing_bound) None) (v ∷ vs)) story other =
-      it.tells 0 no_lines 1 nothing_bound [] [] undefined [] (stands_nothing program) ∙ cases.of_choose x u None tree.Skip tree.Skip undefined nothing_bound []
+      it.tells 0 no_lines 1 nothing_bound [] [] [] undefined [] (stands_nothing program) ∙ cases.of_choose x u None tree.Skip tree.Skip undefined nothing_bound []
       ∙ ap (λ us. one_tells [] (pick no_lines 1 []) (filter (λ w. holds program undefined (with_value x w nothing_bound) None) us) story other) some in
       subst IsSilent told tt
 
@@ -74,5 +74,5 @@ module _ (program : Program) (rank : Name → ℕ) (ranked : IsRanked program ra
   swapped_parts P Q m n v w first second it =
       let stands = stands_nothing program in
       ap first_assigned
-      (it.tells 0 no_lines 1 nothing_bound [] [] undefined [] stands ∙ cases.of_par (tree.rule_then P (tree.rule_then Q tree.no_rules)) undefined nothing_bound []
-      ∙ ap (λ s. Beside s (Beside (tells program 0 no_lines 1 undefined nothing_bound (at [] 1) Q) Silent)) (sym (first.tells 0 no_lines 1 nothing_bound [] [] undefined (at [] 0) stands)))
+      (it.tells 0 no_lines 1 nothing_bound [] [] [] undefined [] stands ∙ cases.of_par (tree.rule_then P (tree.rule_then Q tree.no_rules)) undefined nothing_bound []
+      ∙ ap (λ s. Beside s (Beside (tells program 0 no_lines 1 undefined nothing_bound (at [] 1) Q) Silent)) (sym (first.tells 0 no_lines 1 nothing_bound [] [] [] undefined (at [] 0) stands)))

@@ -18,12 +18,12 @@ use Rattle.asm_resolve.specs.code.ResolvingLaws.{ResolvingLaws}
 use Rattle.asm_resolve.proofs.StandingPositions.{stands_nothing}
 
 told_here : (s : Spec) (P : Rule) (c : RuleCode) (turns : ℕ) (script : Script) (step : ℕ) (A : State) (p : Path) → resolved_rule_in s [] P c
-    → telling (shape_of s) turns (pick script step) c [] [] A p ≡ tells (program_of s) turns script step A nothing_bound p P
-told_here s P c turns script step A p it = it.tells turns script step nothing_bound [] [] A p (stands_nothing (program_of s))
+    → telling (shape_of s) turns (pick script step) c [] [] [] A p ≡ tells (program_of s) turns script step A nothing_bound p P
+told_here s P c turns script step A p it = it.tells turns script step nothing_bound [] [] [] A p (stands_nothing (program_of s))
 
 pub resolving_laws : ResolvingLaws
 resolving_laws = record {
   means = λ s P c turns script step A p it.
-      sym (code_outcomes (shape_of s) turns (pick script step) c [] [] A p) ∙ ap outcome_of (told_here s P c turns script step A p it) ∙ told_outcomes (program_of s) turns script step A nothing_bound p P;
+      sym (code_outcomes (shape_of s) turns (pick script step) c [] [] [] A p) ∙ ap outcome_of (told_here s P c turns script step A p it) ∙ told_outcomes (program_of s) turns script step A nothing_bound p P;
   tells = told_here;
 }

@@ -2,7 +2,7 @@
 -- rule stands for, by the codes of its parts, and that its parts have fewer rules than it.
 use Rattle.std.proofs.Common.{◌≡◌, ℕ, ◌+◌, ◌≤◌, ◌<◌, Bool, false, List, [], ◌∷◌, length, map, take, get_or, Option, Some, None, is_some, Result, IfOk, Box, Vec, Global, refl, sym, ap, subst, ◌∙◌, arith, zero, suc}
 use Rattle.std.specs.Prelude.{option_map, min}
-use Rattle.std.proofs.lemmas.List.{length-map, take_min, take-map}
+use Rattle.std.proofs.lemmas.List.{length-map, length-take-le, take-map}
 use Rattle.asm_state.specs.declared.value.Value.{Value}
 use Rattle.asm_state.specs.declared.value.Value.TheVariants.{Truth}
 use Rattle.asm_syntax.specs.SourceTree.{Spec}
@@ -26,7 +26,7 @@ use Rattle.asm_check.specs.Shapes.{shape_of}
 use Rattle.asm_check.specs.declared.checked.Checked.{Checked}
 use Rattle.asm_meaning.specs.Declarations.{numbered, program_of, rule_number, universe_number}
 use Rattle.asm_meaning.specs.code.MeantTrees.{text_of}
-use Rattle.asm_meaning.specs.Program.{Declared, NamedRule}
+use Rattle.asm_meaning.specs.Program.{Declared, NamedRule, Environment, with_term, bind_terms}
 use Rattle.asm_meaning.proofs.MeantDeclarations.{program_declares}
 use Rattle.asm_meaning.proofs.NumberedValues.{numbered_names-rule as numbered_rule}
 use Rattle.asm_resolve.specs.code.RuleScopes.{IsRuleBody, resolved_target_in}
@@ -202,12 +202,14 @@ counted spec good (t ∷ ts) = ap suc (counted spec good ts)
 same_parameters : (xs ys : List Name) (P Q : tree.Rule) → ◌≡◌ {A = Option Declared} (Some (NamedRule xs P)) (Some (NamedRule ys Q)) → xs ≡ ys
 same_parameters xs ys P Q e = cc
 
--- as many of the parameters as a call has terms
-bound_names : (xs : List NameHere) (count n : ℕ) → n ≡ min (length xs) count → take n (map text_of xs) ≡ take count (map text_of xs)
-bound_names xs count n is = ap (λ k. take k (map text_of xs)) (is ∙ least ∙ ap (min count) (sym (length-map xs text_of))) ∙ take_min count (map text_of xs)
-  where
-    least : min (length xs) count ≡ min count (length xs)
-    least = grind arith
+-- terms behind as many as there are parameters are bound to none
+bind_first : (spec : Spec) (good : IsWellFormed spec) (xs : List Name) (ts : List Term) (n : ℕ) (caller : Environment) → n ≡ min (length xs) (length ts)
+    → bind_terms xs (meant_terms (take n ts)) caller ≡ bind_terms xs (meant_terms ts) caller
+bind_first spec good [] ts n caller is = refl
+bind_first spec good (x ∷ xs) [] zero caller is = refl
+bind_first spec good (x ∷ xs) [] (suc n) caller is = absurd (omega (arith, is))
+bind_first spec good (x ∷ xs) (t ∷ ts) zero caller is = absurd (omega (arith, is))
+bind_first spec good (x ∷ xs) (t ∷ ts) (suc n) caller is = ap (with_term x (meant_term t) caller) (bind_first spec good xs ts n caller (omega (arith, is)))
 
 -- a number that is a rule's
 pub rule_is : (it : Option NameNumber) (r : ℕ) → rule_number it ≡ Some r → it ≡ Some (number.Rule r)
@@ -219,19 +221,24 @@ rule_is (Some (number.Derived n)) r e = cc
 rule_is None r e = cc
 
 module _ (spec : Spec) (good : IsWellFormed spec) (slots : List Slot) where
-  -- a call of the rule with a number, whose body's code is known
+  -- a call of the rule with a number, whose body's code is known, and of as many of its terms as
+  -- there are parameters
   pub called_here : (target : Option (Name × tree.Terms)) (f : Name) (r n : ℕ) (to : Option TargetCode) → rule_number (named spec f) ≡ Some r → (body : _) → IsRuleBody spec r (is_some to) n (rule_of (arc_value body))
-      → resolved_target_in spec slots target (option_map target_code_of to) → (ts : List Term) (cs : Vec Code Global) → AllResolved (program_of spec) (shape_of spec) (names_in slots) ts cs.items
+      → resolved_target_in spec slots target (option_map target_code_of to) → (ts passed : List Term) → passed ≡ take n ts → (cs : Vec Code Global) → AllResolved (program_of spec) (shape_of spec) (names_in slots) passed cs.items
       → (xs : List NameHere) (R : Rule) → declared_with_number (rules_of spec) r ≡ Some (names_in_check.NamedRule (map name_of xs) (syntax.rule_of R)) → n ≡ min (length xs) (length ts)
       → IsResolvedRule (program_of spec) (shape_of spec) slots (tree.Call target f (meant_terms ts)) (rule_of (code.Call body to cs))
-  called_here target f r n to is body known answer ts cs are xs R says many =
+  called_here target f r n to is body known answer ts passed first cs are xs R says many =
       let here = numbered_rule spec (Some (number.Rule r)) r xs R refl says in
       let same = same_parameters known.parameters (map text_of xs) known.body (meant R) (sym known.stands ∙ here) in
-      let bound : take n known.parameters ≡ take (how_many spec good (meant_terms ts)) known.parameters
-      = subst (λ ys. take n ys ≡ take (how_many spec good (meant_terms ts)) ys) (sym same) (bound_names xs (length ts) n many ∙ ap (λ k. take k (map text_of xs)) (sym (counted spec good ts))) in
+      let long : length known.parameters ≡ length xs = ap length same ∙ length-map xs text_of in
+      let count : how_many spec good (meant_terms passed) ≡ n = counted spec good passed ∙ ap length first ∙ length-take-le n ts (omega (arith, many)) in
+      let bound : take n known.parameters ≡ take (how_many spec good (meant_terms passed)) known.parameters = ap (λ k. take k known.parameters) (sym count) in
       as_resolved_rule (program_of spec) (shape_of spec) slots _ _ _ _ refl (call_form (code.Call body to cs) body to cs refl)
-      (call_resolved spec good slots target (option_map target_code_of to) answer f (meant_terms ts) (codes_of (map code_of cs.items)) are known.parameters known.body
-      (program_declares spec f ∙ ap (numbered spec) (rule_is (named spec f) r is) ∙ known.stands) (rule_of (arc_value body))
+      (call_resolved spec good slots target (option_map target_code_of to) answer f (meant_terms ts) (meant_terms passed) (codes_of (map code_of cs.items)) are known.parameters known.body
+      (program_declares spec f ∙ ap (numbered spec) (rule_is (named spec f) r is) ∙ known.stands)
+      (omega (arith, count, many, long))
+      (λ caller. ap (λ us. bind_terms known.parameters (meant_terms us) caller) first ∙ bind_first spec good known.parameters ts n caller (many ∙ ap (λ k. min k (length ts)) (sym long)))
+      (rule_of (arc_value body))
       (subst (λ ss. IsResolvedRule (program_of spec) (shape_of spec) ss known.body (rule_of (arc_value body))) (λ i. called_slots (mapped to i) (bound i)) known.resolved))
     where
       mapped : (to : Option TargetCode) → is_some to ≡ is_some (option_map target_code_of to)

@@ -24,6 +24,7 @@ use Rattle.asm_resolve.proofs.FunctionReads.{at_position_of, one_each, placed, t
 
 pub held_located : (shape : Shape) (f : ℕ) → HasKind Controlled shape f → (ts : Vec Code Global) (us : List Code) → ts.items ≡ us → IsLocated shape f (codes_of (map code_of us)) (target_code_of (place.FunctionAt f ts))
 held_located shape f kind ts us are = subst (λ ks. IsLocated shape f (codes_of (map code_of ks)) (target_code_of (place.FunctionAt f ts))) are (record {
+  keeps = λ rs gs A. refl;
   sound = λ sound. (kind, sound);
   locates = λ rs ls A. refl;
 })
@@ -35,6 +36,7 @@ module _ (shape : Shape) (f : ℕ) (fits : Fits shape) where
       let none : 1 ≡ length (argument_lists []) = sym domain_laws.count_of_none in
       let last = last_number shape f [] has n 1 first none fits.few_locations in
       let same : n ≡ n + 0 = omega arith in record {
+        keeps = λ rs gs A. refl;
         sound = λ ts_sound. record { in_range = omega (arith, last.in_range); few = omega (arith, last.few) };
         locates = λ rs ls A. ap Some (ap (location_at shape) same ∙ located_at shape f [] has n 1 first none [] (Some 0) refl);
       }
@@ -45,6 +47,7 @@ module _ (shape : Shape) (f : ℕ) (fits : Fits shape) where
       let over = is.universe in
       let there : universe_at shape over ≡ is.values = get_or_from_slice_get shape.universes over is.values [] is.at in
       let all : span.count ≡ length (argument_lists (universe_at shape over ∷ [])) = is.span.count ∙ ap length (sym there) ∙ sym (one_each (universe_at shape over)) in record {
+        keeps = λ rs gs A. refl;
         sound = λ ts_sound. (last_number shape f (over ∷ []) is.domain n span.count is.begins all fits.few_locations, ts_sound.0);
         locates = λ rs ls A. let v = reading shape (code_of t.value) rs A in
             ap (λ o. Some (location_at shape (number_from n span.count o))) (placed shape f fits over is.values there span is.span v)
@@ -60,6 +63,7 @@ module _ (shape : Shape) (f : ℕ) (fits : Fits shape) where
       let many' : at.columns.count ≡ length (universe_at shape is.columns) = is.column_span.count ∙ ap length (sym there') in
       let all : at.rows.count * at.columns.count ≡ length (argument_lists (universe_at shape is.rows ∷ universe_at shape is.columns ∷ [])) =
       (λ i. many i * many' i) ∙ sym (two_each (universe_at shape is.rows) (universe_at shape is.columns)) in record {
+        keeps = λ rs gs A. refl;
         sound = λ ts_sound. (last_number shape f (is.rows ∷ is.columns ∷ []) is.domain at.first (at.rows.count * at.columns.count) is.begins all fits.few_locations, ts_sound.0, ts_sound.1.0);
         locates = λ rs ls A. let v = reading shape (code_of s.value) rs A in let w = reading shape (code_of t.value) rs A in
             (λ i. Some (location_at shape (number_from at.first (at.rows.count * at.columns.count)

@@ -45,7 +45,7 @@ module _ (program : Program) (rank : Name → ℕ) (A : State) (e : Environment)
   bound_value : (x : Name) (ts : Terms) (b : Binding) → bound_to e x ≡ Some b → bound_reading program b A ≡ value program A e (tree.Named x ts)
   bound_value x ts (ToValue v) is = sym (cases.of_value x ts v is)
   bound_value x ts (ToTerm t caller) is = sym (cases.of_term x ts t caller is)
-  bound_value x ts (ToLocation l) is = sym (cases.of_location x ts l is)
+  bound_value x ts (ToLocation l ws) is = sym (cases.of_location x ts l ws is)
 
   -- what one that isn't bound is declared as
   declared_is : (x : Name) (ts : Terms) → bound_to e x ≡ None → rank x < nesting → (it : Option Declared) → declared program x ≡ it

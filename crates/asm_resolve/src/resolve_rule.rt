@@ -293,7 +293,8 @@ fn resolve_call<'e>(
     let (names, _rule) = checked.rule(r);
     let bound = names.len().min(arguments.len());
     let body = resolve_rule_body(alloc, checked, known, name, r, answer.is_some(), bound)?;
-    let arguments = resolve_all(alloc, checked, &mut known.terms, scope, name, arguments)?;
+    let passed = &arguments[..bound];
+    let arguments = resolve_all(alloc, checked, &mut known.terms, scope, name, passed)?;
     Ok(RuleCode::Call {
         body,
         answer,

@@ -21,7 +21,7 @@ use Rattle.asm_meaning.specs.Does.{does, Outcome, Meaning, meaning, meanings, pa
 use Rattle.asm_meaning.specs.Ranks.{CallsBelow, EachCallsBelow, IsRanked}
 use Rattle.asm_meaning.specs.LawOfChoice.{FreeHasScript}
 use Rattle.asm_meaning.specs.Scripts.{unrepeated}
-use Rattle.asm_reader.specs.code.ExactLines.{exactly}
+use Rattle.asm_reader.specs.ExactLines.{exactly}
 use Rattle.asm_reader.proofs.ScriptLemmas.MoreLines.{pick_line}
 use Rattle.asm_meaning.proofs.ChoiceLemmas.UnrepeatedScripts.{unrepeated_script}
 use Rattle.asm_meaning.proofs.ChoiceLemmas.Scripts.{Scripts, ScriptsFrom, Choices, choice_at, itself, unscripted, join, single, skipped, whole, choosing}

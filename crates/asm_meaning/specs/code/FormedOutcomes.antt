@@ -18,6 +18,7 @@ use Rattle.asm_updates.specs.code.Stands.{Stands, Adds}
 use Rattle.asm_meaning.specs.code.PartSets.{IsPartSet}
 use Rattle.asm_meaning.specs.Yields.{Path, Gives, Exhausted}
 use Rattle.asm_meaning.specs.Does as does
+pub use Rattle.asm_meaning.specs.Does.{greatest_count}
 use Rattle.asm_meaning.specs.declared.outcome.Forming.{Forming}
 use Rattle.asm_meaning.specs.declared.outcome.Outcome.{Outcome}
 use Rattle.asm_meaning.specs.declared.outcome.Outcome.TheVariants.{Set, Exhausted as ExhaustedAt}
@@ -25,10 +26,6 @@ use Rattle.asm_meaning.specs.declared.part_set.PartSet.{PartSet}
 use Rattle.asm_meaning.specs.declared.stopped.Stopped.{Stopped}
 use Rattle.asm_meaning.specs.declared.stopped.Stopped.TheVariants as stopped
 use Rattle.asm_meaning.specs.declared.stopped.Stopped.TheVariants.{Memory}
-
--- the number of instances is cut off if it doesn't fit 64 bits
-abbrev pub greatest_count : ℕ
-greatest_count = 18_446_744_073_709_551_615
 
 pub record Forms (shape : Shape) (o : does.Outcome) (old new : SummaryRanges) (before after : ℕ) : Type 0 where
   pub set : UpdateSet

@@ -16,7 +16,7 @@ abbrev pub names_of : Environment → List Name
 names_of nothing_bound = []
 names_of (with_value x v e) = x ∷ names_of e
 names_of (with_term x t caller e) = x ∷ names_of e
-names_of (with_location x l e) = x ∷ names_of e
+names_of (with_location x l ws e) = x ∷ names_of e
 
 module _ (program : Program) (body : List Name → Term → ℕ) where
   -- a name that isn't bound has the size of the derived function's body
@@ -52,7 +52,7 @@ unfoldable pub load : Program → Environment → ℕ
 load program nothing_bound = 0
 load program (with_value x v e) = load program e
 load program (with_term x t caller e) = max (size_within program nesting t (names_of caller) + load program caller) (load program e)
-load program (with_location x l e) = load program e
+load program (with_location x l ws e) = load program e
 
 unfoldable pub weight : Program → Environment → Term → ℕ
 weight program e t = size_within program nesting t (names_of e) + load program e

@@ -1,7 +1,8 @@
 -- Bridge to the code. Codes that stand for a function with arguments, and target codes that name
 -- its location with them.
 --     IsRead shape f ts t          t has the value of the function f for the values of ts
---     IsLocated shape f ts to      `to` names the location of the function f with the values of ts
+--     IsLocated shape f ts to      `to` names the location of the function f with the values of ts,
+--                                  which are its arguments
 --     HasDomain shape f ns         f is a controlled function over the universes numbered ns
 --     IsRowOf shape f first over   f is a controlled function of one argument, with the number of
 --                                  its first location and the code range of the argument's values
@@ -17,6 +18,7 @@ use Rattle.asm_state.specs.Tables.{location_in}
 use Rattle.asm_meaning.specs.Declarations.{function_at}
 use Rattle.asm_meaning.specs.Value.{Reading}
 use Rattle.asm_meaning.specs.code.TermValues.{held}
+use Rattle.asm_code.specs.code.BoundValues.{arguments_of}
 use Rattle.asm_code.specs.code.CodeTree.{Code, Codes}
 use Rattle.asm_code.specs.code.Readings.{reading, readings}
 use Rattle.asm_code.specs.code.RuleMeaning.{Locations, IsSoundTarget, target_location}
@@ -33,6 +35,7 @@ pub record IsRead (shape : Shape) (f : ℕ) (ts : Codes) (t : Code) : Type 0 whe
 pub record IsLocated (shape : Shape) (f : ℕ) (ts : Codes) (to : Place) : Type 0 where
   pub sound : AreSound shape ts → IsSoundTarget shape to
   pub locates : (rs : List Reading) (ls : Locations) (A : State) → target_location shape to rs ls A ≡ Some (location_in f (domain_of shape f) (readings shape ts rs A))
+  pub keeps : (rs : List Reading) (gs : List Value) (A : State) → arguments_of shape to rs gs A ≡ readings shape ts rs A
 
 pub record HasDomain (shape : Shape) (f : ℕ) (ns : List ℕ) : Type 0 where
   pub function : Function

@@ -19,7 +19,7 @@ module _ (program : Program) where
   abbrev pub bound_reading : Binding → Reading
   bound_reading (ToValue v) = always v
   bound_reading (ToTerm t caller) = λ A. value program A caller t
-  bound_reading (ToLocation l) = λ A. read A l
+  bound_reading (ToLocation l ws) = λ A. read A l
 
   pub record Agrees (names : List Name) (e : Environment) (rs : List Reading) : Type 0 where
     pub bound : (x : Name) (i : ℕ) → position_of names x ≡ Some i → (b : Binding) × (bound_to e x ≡ Some b) × (at_position rs i ≡ bound_reading b)

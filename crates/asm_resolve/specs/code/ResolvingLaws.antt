@@ -21,4 +21,4 @@ pub record ResolvingLaws : Type 0 where
   pub means : (s : Spec) (P : Rule) (c : RuleCode) (turns : ℕ) (script : Script) (step : ℕ) (A : State) (p : Path) → resolved_rule_in s [] P c
       → meaning (shape_of s) turns (pick script step) c [] [] A p ≡ does (program_of s) turns script step A nothing_bound p P
   pub tells : (s : Spec) (P : Rule) (c : RuleCode) (turns : ℕ) (script : Script) (step : ℕ) (A : State) (p : Path) → resolved_rule_in s [] P c
-      → telling (shape_of s) turns (pick script step) c [] [] A p ≡ tells (program_of s) turns script step A nothing_bound p P
+      → telling (shape_of s) turns (pick script step) c [] [] [] A p ≡ tells (program_of s) turns script step A nothing_bound p P

@@ -290,7 +290,7 @@ resolve_call-returns-clause-resolved t c =
     called_here spec a.checked.now.well_formed (slots_of a.scope.now) (meant_target a.target.now) a.name.now.text c.in-Some.r c.min-bound.result c.in_ok-answer.answer
     (ap rule_number (sym c.named_text.ensures.named) ∙ sym c.number_of_rule.ensures ∙ c.in-Some.is) c.in_ok-body.body
     (subst (λ b. IsRuleBody spec c.in-Some.r b c.min-bound.result (rule_of (arc_value c.in_ok-body.body))) c.is_some.ensures c.in_ok-body.ensures.body)
-    c.in_ok-answer.ensures.resolved a.arguments.now c.in_ok-arguments.arguments c.in_ok-arguments.ensures.resolved c.rule.result.0.now c.rule.result.1.now c.rule.ensures c.min-bound.ensures
+    c.in_ok-answer.ensures.resolved a.arguments.now _ refl c.in_ok-arguments.arguments c.in_ok-arguments.ensures.resolved c.rule.result.0.now c.rule.result.1.now c.rule.ensures c.min-bound.ensures
 
 pub resolve_call-returns-in_default-clause-resolved : goal.resolve_call-returns-in_default-clause-resolved
 resolve_call-returns-in_default-clause-resolved t c =
