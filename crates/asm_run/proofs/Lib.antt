@@ -1,6 +1,5 @@
 mod Exclusion
 mod FirstTokens
-pub mod FormedSet
 pub mod LocationFunctions
 mod RunSoFar
 pub mod EndTexts

@@ -13,7 +13,7 @@ use Rattle.asm_state.specs.Location.{Location, Proper}
 use Rattle.asm_state.specs.Updates.{Clash, Outside, IsFirstFault}
 use Rattle.asm_syntax.specs.declared.error.LexError.TheVariants.{TooLong}
 use Rattle.asm_syntax.specs.SourceTree.{Spec}
-use Rattle.asm_syntax.specs.code.Lexing.{HasFirstToken}
+use Rattle.asm_syntax.specs.Tokens.{HasFirstToken}
 use Rattle.asm_reader.specs.declared.error.ReadError.TheVariants.{Lex}
 use Rattle.asm_reader.specs.Specification.{IsSpecification}
 use Rattle.asm_reader.specs.Refusals.{IsRefusal}

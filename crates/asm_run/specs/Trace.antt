@@ -13,7 +13,7 @@ use Rattle.asm_state.specs.declared.value.Value.{Value}
 use Rattle.asm_state.specs.declared.value.Value.TheVariants.{Undef, Truth, Number, Element}
 use Rattle.asm_state.specs.Location.{Location, Proper, Stray, State}
 use Rattle.asm_state.specs.Updates.{UpdateSet, Range, range_at, Fault, Clash, Outside, IsFirstFault}
-use Rattle.asm_meaning.specs.code.FormedOutcomes.{greatest_count}
+use Rattle.asm_meaning.specs.Does.{greatest_count}
 use Rattle.asm_meaning.specs.Yields.{Path}
 use Rattle.asm_meaning.specs.Run.{End, AtLimit, AtExhausted, AtFault, FiredStep, Run}
 

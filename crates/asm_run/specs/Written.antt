@@ -2,12 +2,10 @@
 --     names_in s, locations_in s     what its functions and elements are called; its proper
 --                                    locations, in order
 --     text_of_location s n           the text of the location with this number
---     AreTextsOf s texts             texts are those of the locations with their numbers, if there
---                                    are any
 --     step_line                      the first line of a step
 --     assigned_text                  what follows the location in the line of an update
---     entries_text, contents_text    the lines of the entries of a set; the last state
-use Rattle.std.specs.Prelude.{◌≡◌, ◌⊎◌, ℕ, cond, List, [], ◌++◌, map, filter, slice_index_or, Some, codes, decimal}
+--     contents_text                  the last state
+use Rattle.std.specs.Prelude.{ℕ, cond, List, [], ◌++◌, map, filter, slice_index_or, codes, decimal}
 use Rattle.std.specs.List.{flat_map, range_with_len}
 use Rattle.asm_state.specs.declared.value.Value.{Value}
 use Rattle.asm_state.specs.declared.value.Value.TheVariants.{Undef}
@@ -18,9 +16,7 @@ use Rattle.asm_syntax.specs.SourceTree.{Spec}
 use Rattle.asm_check.specs.Names.{Declaration}
 use Rattle.asm_check.specs.Numbers.{functions_of, elements_of}
 use Rattle.asm_check.specs.Shapes.{shape_of}
-use Rattle.asm_updates.specs.code.SummaryRanges.{NamedRanges, range}
-use Rattle.asm_run.specs.code.KeptTexts.{kept}
-use Rattle.asm_run.specs.Trace.{TraceNames, line_end, location_text, value_text, update_text, content_text}
+use Rattle.asm_run.specs.Trace.{TraceNames, line_end, location_text, value_text, content_text}
 
 abbrev pub texts_of : List Declaration → List (List ℕ)
 texts_of ds = map (λ (d : Declaration). d.name.text) ds
@@ -34,21 +30,11 @@ locations_in s = filter is_proper (locations (shape_of s))
 abbrev pub text_of_location : Spec → ℕ → List ℕ
 text_of_location s n = location_text (names_in s) (location_at (shape_of s) n)
 
-abbrev pub AreTextsOf : Spec → List (List ℕ) → Type 0
-AreTextsOf s texts = (n : ℕ) → (kept texts n ≡ []) ⊎ (kept texts n ≡ text_of_location s n)
-
 abbrev pub assigned_text : Spec → Value → List ℕ
 assigned_text s v = codes " := " ++ (value_text (names_in s).elements v ++ line_end)
 
 abbrev pub step_line : (step instances : ℕ) → List ℕ
 step_line step instances = codes "step " ++ (decimal step ++ (codes " instances " ++ (decimal instances ++ line_end)))
-
--- an entry of a set, with the number of its location
-abbrev pub entry_line : Spec → ℕ × (Value × Value) → List ℕ
-entry_line s e = update_text (names_in s) (location_at (shape_of s) e.0) (Some (range e.1))
-
-abbrev pub entries_text : Spec → NamedRanges → List ℕ
-entries_text s es = flat_map (entry_line s) es
 
 -- the content of the location with this number, if it is proper
 abbrev pub content_line : Spec → List Value → ℕ → List ℕ

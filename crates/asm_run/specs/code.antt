@@ -2,10 +2,10 @@
 pub mod Exclusion
 pub mod Hands
 pub mod KeptTexts
-pub mod Machine
 pub mod PartTexts
 pub mod RefusedRuns
 pub mod Rounds
 pub mod RunSoFar
 pub mod Step
 pub mod Traces
+pub mod WrittenEntries

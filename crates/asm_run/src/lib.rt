@@ -16,7 +16,6 @@ pub mod locations;
 pub mod pooled;
 mod put_set;
 mod region;
-mod resolved_specification;
 mod rounds;
 pub mod run;
 pub mod sink;

@@ -1,13 +1,14 @@
 //! Regions worked by many workers.
-ghost use Rattle.std.specs.Prelude.{◌≡◌, IfOk, IsTrue};
+ghost use Rattle.std.specs.Prelude.{◌≡◌, length, IfErr, IfOk, IsTrue, OnOk};
 ghost use Rattle.asm_state.specs.Signature.{count_of};
-ghost use Rattle.asm_meaning.specs.code.FormedOutcomes.{Follows, IsFormed};
+ghost use Rattle.asm_meaning.specs.code.FormedOutcomes.{Follows, IsFormed, IsSet, IsStoppedAt};
 ghost use Rattle.asm_code.specs.code.RuleMeaning.{IsSoundRule};
 ghost use Rattle.asm_code.specs.code.RuleViews.{rule_of};
 ghost use Rattle.asm_eval.specs.code.Frames.{IsSoundFrame};
 ghost use Rattle.asm_eval.specs.code.Regions.{IsFormedOrLeft};
 ghost use Rattle.asm_eval.specs.code.Evaluation.{HasLocations, rule_at, rule_shown, evaluation_shape};
 ghost use Rattle.asm_limits.specs.Limits.{are_in_range};
+ghost use Rattle.asm_step.specs.code.Steps.{HasMainRule, shape_in, step_in};
 
 use crate::add_set::add_set;
 use crate::region::work_region;
@@ -25,6 +26,8 @@ use asm_meaning::{Choices, Forming, Outcome, Part, Path, Stopped, View};
 use asm_pool::{Gate, PoolError};
 use asm_reader::Picks;
 use asm_state::signature::Signature;
+use asm_state::state::State;
+use asm_step::{ResolvedSpecification, form_step};
 use std::alloc::{AllocError, Global};
 use std::thread::Threads;
 
@@ -146,6 +149,46 @@ impl<'r, R: Threads + Sync, G: Gate + Sync> Pooled<'r, R, G> {
         };
         let mut by = FormedBy { form: &regions };
         form(alloc, &mut by, evaluation, frame, rule, forming)
+    }
+
+    /// Forms what the step from a state yields, as `form_step` does. The workers share each of its
+    /// regions, and this thread does the rest.
+    pub(crate) fn form_step<P: Picks + Sync>(
+        &self,
+        alloc: Global,
+        resolved: &ResolvedSpecification<'_>,
+        choices: &Choices<'_, P>,
+        state: &State,
+        forming: &mut Forming,
+    ) -> Result<(), Stopped>
+        requires main { HasMainRule resolved.now }
+        requires whole { length state.now ≡ count_of (shape_in resolved.now) }
+        requires fits { forming.old.set.count ≡ count_of (shape_in resolved.now) }
+        ensures count { forming.new.set.count ≡ forming.old.set.count }
+        ensures formed { OnOk result (IsSet (shape_in resolved.now) (step_in resolved.now (P.script choices.now.script.now) choices.now.step state.now) forming.new.set forming.new.instances) }
+        ensures exhausted { IfErr result (IsStoppedAt (step_in resolved.now (P.script choices.now.script.now) choices.now.step state.now) forming.new.path.items) }
+    {
+        if self.shares.workers == 1 {
+            return form_step(alloc, &mut OnThisThread, resolved, choices, state, forming);
+        }
+        let (rt, gate, shares) = (self.rt, self.gate, self.shares);
+        let regions = |alloc: Global, view: &View<'_>, choices: &Choices<
+            '_,
+            P,
+        >, turns: u32, frame: &Frame<'_>, rule: &RuleCode, forming: &mut Forming| -> Result<
+            RegionOutcome,
+            Stopped,
+        >
+            requires sound { IsSoundRule view.now.signature.now (rule_of rule.now) }
+            requires framed { IsSoundFrame view.now.signature.now frame.now }
+            requires fits { forming.old.set.count ≡ count_of view.now.signature.now }
+            ensures { IsFormedOrLeft view.now.signature.now (rule_shown P.script view.now choices.now turns frame.now forming.old.path.items (rule_of rule.now)) forming.old forming.new result }
+        {
+            let pooled = Pooled { rt, gate, shares };
+            pooled.take_region(alloc, view, choices, turns, frame, rule, forming)
+        };
+        let mut by = FormedBy { form: &regions };
+        form_step(alloc, &mut by, resolved, choices, state, forming)
     }
 
     /// Forms a region, as a function by which regions are formed. It leaves none.

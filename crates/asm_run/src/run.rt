@@ -5,7 +5,6 @@ ghost use Rattle.asm_run.specs.Headline.{Runs};
 use crate::end::End;
 use crate::error::RunError;
 use crate::pooled::Pooled;
-use crate::resolved_specification::ResolvedSpecification;
 use crate::sink::Sink;
 use crate::steps::run_steps;
 use asm_check::check;
@@ -14,6 +13,7 @@ use asm_pool::{Gate, NoGate};
 use asm_reader::{read, read_script};
 use asm_resolve::laws::resolving_laws;
 use asm_resolve::main_rule::resolve_main;
+use asm_step::ResolvedSpecification;
 use std::alloc::Global;
 use std::thread::Threads;
 

@@ -1,59 +1,23 @@
 //! One step of a run.
-ghost use Rattle.std.specs.Prelude.{◌≡◌, IfOk, IfErr, IfSome, IfNone, OnOk};
+ghost use Rattle.std.specs.Prelude.{IfOk, IfSome, IfNone, OnOk};
 ghost use Rattle.asm_syntax.specs.code.Views.{spec_of};
-ghost use Rattle.asm_check.specs.Shapes.{shape_of};
-ghost use Rattle.asm_meaning.specs.code.FormedOutcomes.{IsSet, IsStoppedAt};
-ghost use Rattle.asm_run.specs.code.Machine.{HasMainRule};
-ghost use Rattle.asm_run.specs.code.Step.{AreSized, IsFired, IsStopped, main_outcome};
-ghost use Rattle.asm_run.specs.Written.{AreTextsOf};
+ghost use Rattle.asm_step.specs.code.Steps.{HasMainRule};
+ghost use Rattle.asm_run.specs.code.Step.{AreSized, IsFired, IsStopped};
+ghost use Rattle.asm_run.specs.code.WrittenEntries.{AreTextsOf};
 
 use crate::end::End;
 use crate::location_texts::LocationTexts;
 use crate::pooled::Pooled;
-use crate::resolved_specification::ResolvedSpecification;
 use crate::step_end::end_at_fault;
 use crate::trace::push_step;
-use asm_eval::evaluation::Evaluation;
-use asm_eval::frame::Frame;
-use asm_meaning::{Choices, Forming, Path, Stopped, View};
+use asm_meaning::{Choices, Forming, Path, Stopped};
 use asm_pool::Gate;
 use asm_reader::Picks;
-use asm_resolve::laws::resolving_laws;
 use asm_state::state::State;
-use asm_updates::summary::Summary;
+use asm_step::ResolvedSpecification;
 use std::alloc::{AllocError, Global};
 use std::mem;
 use std::thread::Threads;
-
-/// Forms what the main rule yields, instead of what was formed before.
-fn form_main<'a, R: Threads + Sync, G: Gate + Sync, P: Picks + Sync>(
-    alloc: Global,
-    pooled: &Pooled<'_, R, G>,
-    resolved: &ResolvedSpecification<'a>,
-    choices: &'a Choices<'a, P>,
-    state: &State,
-    forming: &mut Forming,
-) -> Result<(), Stopped>
-    requires sized { AreSized (spec_of resolved.now.checked.now.spec) state.now forming.old.set.count }
-    requires main { HasMainRule resolved.now }
-    ensures count { forming.new.set.count ≡ forming.old.set.count }
-    ensures formed { let o = main_outcome (spec_of resolved.now.checked.now.spec) resolved.now.turns (P.script choices.now.script.now) choices.now.step state.now in
-        OnOk result (IsSet (shape_of (spec_of resolved.now.checked.now.spec)) o forming.new.set forming.new.instances) }
-    ensures exhausted { let o = main_outcome (spec_of resolved.now.checked.now.spec) resolved.now.turns (P.script choices.now.script.now) choices.now.step state.now in
-        IfErr result (IsStoppedAt o forming.new.path.items) }
-{
-    resolving_laws();
-    forming.clear();
-    let signature = resolved.checked.signature();
-    let nothing = Summary::new(alloc, signature.count());
-    let view = View::new(signature, state, &nothing);
-    let evaluation = Evaluation {
-        view: &view,
-        choices,
-        turns: resolved.turns,
-    };
-    pooled.form(alloc, &evaluation, &Frame::Empty, resolved.code, forming)
-}
 
 /// Forms the set of a step. Fires it and replaces what was there with the text of the step, or
 /// returns the end of the run.
@@ -75,7 +39,7 @@ pub fn make_step<R: Threads + Sync, G: Gate + Sync, P: Picks + Sync>(
     ensures fired { IfOk result (λ end. IfNone end (IsFired (spec_of resolved.now.checked.now.spec) resolved.now.turns (P.script choices.now.script.now) choices.now.step state.old state.new text.new.items)) }
     ensures stopped { IfOk result (λ end. IfSome end (IsStopped (spec_of resolved.now.checked.now.spec) resolved.now.turns (P.script choices.now.script.now) choices.now.step state.old state.new)) }
 {
-    match form_main(alloc, pooled, resolved, choices, state, forming) {
+    match pooled.form_step(alloc, resolved, choices, state, forming) {
         Ok(()) => {}
         Err(Stopped::Exhausted) => {
             let path = mem::replace(&mut forming.path, Vec::new(alloc));

@@ -2,7 +2,7 @@
 ghost use Rattle.std.specs.Prelude.{◌≡◌, false};
 ghost use Rattle.asm_syntax.specs.code.Views.{spec_of};
 ghost use Rattle.asm_run.specs.Headline.{book_run};
-ghost use Rattle.asm_run.specs.code.Machine.{HasMainRule};
+ghost use Rattle.asm_step.specs.code.Steps.{HasMainRule};
 ghost use Rattle.asm_run.specs.code.RunSoFar.{RunsSteps};
 ghost use Rattle.asm_run.specs.Written.{names_in, locations_in};
 
@@ -11,7 +11,6 @@ use crate::error::RunError;
 use crate::finish::finish;
 use crate::location_texts::LocationTexts;
 use crate::pooled::Pooled;
-use crate::resolved_specification::ResolvedSpecification;
 use crate::sink::Sink;
 use crate::step::make_step;
 use crate::write_all::write_all;
@@ -19,6 +18,7 @@ use asm_meaning::{Choices, Forming};
 use asm_pool::Gate;
 use asm_reader::Picks;
 use asm_state::state::State;
+use asm_step::ResolvedSpecification;
 use std::alloc::Global;
 use std::thread::Threads;
 

@@ -7,7 +7,8 @@ ghost use Rattle.std.specs.Prelude.{◌≡◌, ◌<◌, ◌++◌, length, OnOk};
 ghost use Rattle.asm_state.specs.Signature.{count_of};
 ghost use Rattle.asm_syntax.specs.code.Views.{spec_of};
 ghost use Rattle.asm_check.specs.Shapes.{shape_of};
-ghost use Rattle.asm_run.specs.Written.{AreTextsOf, step_line, entries_text, content_line, contents_text};
+ghost use Rattle.asm_run.specs.Written.{step_line, content_line, contents_text};
+ghost use Rattle.asm_run.specs.code.WrittenEntries.{AreTextsOf, entries_text};
 
 use crate::buffer::push_text;
 use crate::line::Line;

@@ -5,7 +5,8 @@ ghost use Rattle.asm_state.specs.Signature.{count_of};
 ghost use Rattle.asm_syntax.specs.code.Views.{spec_of};
 ghost use Rattle.asm_check.specs.Shapes.{shape_of};
 ghost use Rattle.asm_run.specs.Trace.{line_end};
-ghost use Rattle.asm_run.specs.Written.{AreTextsOf, assigned_text, entry_line, names_in, text_of_location};
+ghost use Rattle.asm_run.specs.Written.{assigned_text, names_in, text_of_location};
+ghost use Rattle.asm_run.specs.code.WrittenEntries.{AreTextsOf, entry_line};
 
 use crate::buffer::push_text;
 use crate::line::Line;

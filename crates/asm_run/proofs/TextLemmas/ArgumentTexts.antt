@@ -8,7 +8,7 @@ use Rattle.asm_state.specs.declared.value.Value.{Value}
 use Rattle.asm_syntax.specs.SourceTree.{Spec}
 use Rattle.asm_updates.specs.code.SummaryRanges.{NamedRanges}
 use Rattle.asm_run.specs.Trace.{value_text, values_text, numbers_text}
-use Rattle.asm_run.specs.Written.{entry_line, entries_text}
+use Rattle.asm_run.specs.code.WrittenEntries.{entry_line, entries_text}
 
 -- one argument more
 values_more : (elements : List (List ℕ)) (v w : Value) (vs : List Value) → values_text elements v (vs ++ w ∷ []) ≡ values_text elements v vs ++ (codes ", " ++ value_text elements w)

@@ -3,7 +3,8 @@ use Rattle.std.proofs.Common.{◌≡◌, ◌⊎◌, ℕ, List, [], ◌++◌, len
 use Rattle.std.proofs.Math.Seq.{drop-append_seam}
 use Rattle.asm_syntax.specs.SourceTree.{Spec}
 use Rattle.asm_run.specs.code.KeptTexts.{kept}
-use Rattle.asm_run.specs.Written.{AreTextsOf, text_of_location}
+use Rattle.asm_run.specs.Written.{text_of_location}
+use Rattle.asm_run.specs.code.WrittenEntries.{AreTextsOf}
 
 -- the text after what was there
 pub text_behind : (old text new : List ℕ) (start : ℕ) → start ≡ length old → new ≡ old ++ text → drop start new ≡ text

@@ -19,7 +19,8 @@ use Rattle.asm_updates.specs.code.SummaryRanges.{SummaryRanges, AreRanges}
 use Rattle.asm_updates.specs.code.Stands.{Stands}
 use Rattle.asm_meaning.specs.code.FormedOutcomes.{greatest_count}
 use Rattle.asm_run.specs.Trace.{line_end, set_text, state_text, step_text}
-use Rattle.asm_run.specs.Written.{names_in, locations_in, step_line, entries_text, contents_text}
+use Rattle.asm_run.specs.Written.{names_in, locations_in, step_line, contents_text}
+use Rattle.asm_run.specs.code.WrittenEntries.{entries_text}
 use Rattle.asm_run.proofs.ProperLocations.{function_inside, entries_are_set, contents_are_state}
 
 -- a set that is formed from nothing

@@ -12,12 +12,10 @@ use Rattle.asm_state.specs.Signature.{count_of, state_of}
 use Rattle.asm_state.specs.Updates.{UpdateSet, IsConsistent, fire}
 use Rattle.asm_syntax.specs.SourceTree.{Spec}
 use Rattle.asm_reader.specs.ScriptLines.{Script}
-use Rattle.asm_check.specs.Faults.{inits}
 use Rattle.asm_check.specs.Shapes.{shape_of}
-use Rattle.asm_meaning.specs.Declarations.{program_of, main_rule}
-use Rattle.asm_meaning.specs.Does.{Outcome, does}
-use Rattle.asm_meaning.specs.Program.{nothing_bound}
-use Rattle.asm_meaning.specs.Run.{AtExhausted, AtFault}
+use Rattle.asm_meaning.specs.Declarations.{specification_of}
+use Rattle.asm_meaning.specs.Does.{Outcome}
+use Rattle.asm_meaning.specs.Run.{AtExhausted, AtFault, step}
 use Rattle.asm_meaning.specs.Yields as yields
 use Rattle.asm_meaning.specs.Yields.{Gives, Exhausted}
 use Rattle.asm_run.specs.declared.end.End.{End}
@@ -28,9 +26,8 @@ use Rattle.asm_run.specs.Sink.{AppendsFront}
 use Rattle.asm_run.specs.Trace.{step_text}
 use Rattle.asm_run.specs.Written.{names_in, locations_in}
 
-abbrev pub main_outcome : Spec → (turns : ℕ) → Script → (step : ℕ) → (contents : List Value) → Outcome
-main_outcome s turns script step contents =
-    does (program_of s) turns script step (state_of (shape_of s) contents) nothing_bound [] (main_rule s (inits s))
+abbrev pub main_outcome : Spec → (turns : ℕ) → Script → ℕ → (contents : List Value) → Outcome
+main_outcome s turns script i contents = step (specification_of s) turns script i (state_of (shape_of s) contents)
 
 pub record AreSized (s : Spec) (contents : List Value) (count : ℕ) : Type 0 where
   pub contents_fit : length contents ≡ count_of (shape_of s)

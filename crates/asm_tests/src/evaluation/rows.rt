@@ -2,13 +2,12 @@
 //! formed after other updates.
 ghost use Rattle.std.specs.Prelude.{◌≡◌, IfOk};
 
-use super::outcome_at;
+use super::{form_main, outcome_at};
 use crate::beginning::Beginning;
 use crate::plain::{Entry, ONE, Plain, TWO, has_entries, summary_of};
 use crate::rules::{
     ASKING, Asking, Counting, YIELDED, Yielded, is_exhausted, is_set, specification,
 };
-use asm_by_code::by_code::outcome_by_code;
 use asm_check::Checked;
 use asm_eval::evaluation::Evaluation;
 use asm_meaning::{Choices, Forming, Outcome};
@@ -174,7 +173,7 @@ fn formed_behind(alloc: Global, checked: &Checked) -> Result<Forming, Fail> {
         turns: 1,
     };
     let mut forming = formed_before(alloc, view.signature.count())?;
-    match outcome_by_code(alloc, checked, &evaluation, &mut forming)? {
+    match form_main(alloc, checked, &evaluation, &mut forming)? {
         Ok(()) => Ok(forming),
         Err(_) => Err(Fail::new("the rule gives a set")),
     }

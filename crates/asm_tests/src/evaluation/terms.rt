@@ -2,9 +2,9 @@
 use crate::beginning::{Beginning, main_of};
 use crate::checked_text::checked_of_both;
 use crate::plain::{FOUR, ONE, Plain, THREE, TWO, value};
-use asm_by_code::by_code::value_by_code;
 use asm_check::Checked;
 use asm_state::word::Word;
+use asm_step::value_by_code;
 use asm_syntax::rule::Rule;
 use std::alloc::{AllocError, Global};
 use std::test::Fail;

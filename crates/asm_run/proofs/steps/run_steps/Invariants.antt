@@ -1,6 +1,6 @@
 use Rattle.asm_syntax.specs.code.Views.{spec_of}
 use Rattle.asm_run.specs.code.RunSoFar.{GoesOnFrom}
-use Rattle.asm_run.specs.Written.{AreTextsOf}
+use Rattle.asm_run.specs.code.WrittenEntries.{AreTextsOf}
 use Rattle.asm_run.proofs.steps.run_steps.Given as goal
 
 abbrev pub invariant-loop-done : goal.invariant-loop-done

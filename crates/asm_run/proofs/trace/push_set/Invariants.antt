@@ -1,6 +1,6 @@
 use Rattle.std.proofs.Common.{◌≡◌, ◌++◌, take}
 use Rattle.asm_syntax.specs.code.Views.{spec_of}
-use Rattle.asm_run.specs.Written.{AreTextsOf, entries_text}
+use Rattle.asm_run.specs.code.WrittenEntries.{AreTextsOf, entries_text}
 use Rattle.asm_run.proofs.trace.push_set.Given as goal
 
 abbrev pub invariant-loop-i : goal.invariant-loop-i

@@ -1,0 +1,2 @@
+pub mod FormedSet
+pub mod Steps
