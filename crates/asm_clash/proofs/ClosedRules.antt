@@ -45,7 +45,7 @@ use Rattle.asm_eval.specs.declared.open.Opened.{Opened}
 use Rattle.asm_eval.specs.declared.open.Opened.TheVariants as opening
 use Rattle.asm_eval.specs.declared.piece.Piece.{Piece}
 use Rattle.asm_eval.specs.declared.evaluation.Evaluation.{Evaluation}
-use Rattle.asm_clash.specs.code.BoundValues.{Detailed}
+use Rattle.asm_clash.specs.Standing.{Assigned}
 use Rattle.asm_clash.specs.code.StandingCodes.{assigned_at, detail, order_stands, parts_of, standing}
 use Rattle.asm_clash.specs.code.StandingRules.{given_below, given_by, stands_at}
 use Rattle.asm_clash.proofs.OpenedRules.{AreBelow, AreOpened, rule_opened, works_stand}
@@ -113,7 +113,7 @@ module _ (gs : List Value) (of_target : Option tree.Place → List Value) (R : R
 -- ---- what stands of it
 
 module _ (shape : Shape) (turns : ℕ) (chosen : Path → ℕ) (l : Location) (rs : List Reading) (ls : Locations) (gs : List Value) (A : State) (p q : Path) (same : q ≡ p) where
-  abbrev stands : tree.RuleCode → List Detailed
+  abbrev stands : tree.RuleCode → List Assigned
   stands R = standing shape turns chosen l R rs ls gs A p
 
   pub assign_here : (R : RuleCode) (to : TargetCode) (t : Code) → R ≡ code.Assign to t
@@ -147,7 +147,7 @@ module _ {P : Type 0} {picks : Ghosts P} (r : Evaluation P picks) (piece : Piece
       subst (λ its. is_closed_part (rule_of piece.rule.now) its ≡ true) whole closed
 
   module _ (l : Location) (gs : List Value) (pieces : Vec Piece Global) (n : ℕ) (is : o ≡ opening.Pieces pieces n) (long : HasAtMost (all_positions (evaluation_shape r) (rule_of piece.rule.now)) cut) where
-    abbrev all : List Detailed
+    abbrev all : List Assigned
     all = stands_at r l gs piece.frame piece.path (rule_of piece.rule.now)
 
     abbrev below_given : List Value
@@ -179,11 +179,11 @@ module _ {P : Type 0} {picks : Ghosts P} (r : Evaluation P picks) (piece : Piece
 
 -- ---- from piece to piece
 
-module _ {P : Type 0} {picks : Ghosts P} (r : Evaluation P picks) (l : Location) (gs : List Value) (those : List Piece) (most : ℕ) (whole first : List Detailed) where
-  abbrev pub pieces_left : ℕ → List Detailed
+module _ {P : Type 0} {picks : Ghosts P} (r : Evaluation P picks) (l : Location) (gs : List Value) (those : List Piece) (most : ℕ) (whole first : List Assigned) where
+  abbrev pub pieces_left : ℕ → List Assigned
   pieces_left i = works_stand (evaluation_shape r) r.turns (evaluation_choices r) l (evaluation_state r) gs (map (work_of (evaluation_shape r)) (drop i those))
 
-  abbrev piece_stands : Piece → List Detailed
+  abbrev piece_stands : Piece → List Assigned
   piece_stands x = stands_at r l gs x.frame x.path (rule_of x.rule.now)
 
   pub next_piece : (i : ℕ) (x : Piece) → i < length those → x ≡ get_or those i x → whole ≡ first ++ pieces_left i → whole ≡ (first ++ piece_stands x) ++ pieces_left (i + 1)

@@ -4,7 +4,7 @@
 use Rattle.std.proofs.Common.{◌≡◌, ◌<◌, ◌-◌, ◌+◌, ◌≤◌, ℕ, zero, suc, List, [], ◌∷◌, ◌++◌, length, min, take, refl, sym, ap, ◌∙◌, arith, length-append}
 use Rattle.std.proofs.lemmas.List.{length-map, map-append, take_all}
 use Rattle.asm_meaning.specs.code.FormedOutcomes.{greatest_count}
-use Rattle.asm_clash.specs.code.BoundValues.{Detailed, all_detailed, detailed_of}
+use Rattle.asm_clash.specs.Standing.{assigned_of, Assigned, all_assigned}
 use Rattle.asm_clash.specs.code.FirstFound.{IsFound}
 use Rattle.asm_clash.specs.declared.found.Found.{Found}
 
@@ -18,29 +18,29 @@ take_both (suc n) (x ∷ xs) ys =
     ap (λ k. x ∷ take n xs ++ take k ys) less ∙ ap (λ zs. x ∷ zs) (take_both n xs ys)
 
 pub none_found : (most : ℕ) (found : Found) → found.first.items ≡ [] → found.count ≡ 0 → IsFound most [] found
-none_found most found first count = record { first = ap all_detailed first ∙ sym (take_all most [] (omega arith)); count = omega (arith, count) }
+none_found most found first count = record { first = ap all_assigned first ∙ sym (take_all most [] (omega arith)); count = omega (arith, count) }
 
-pub one_found : (most : ℕ) (d : Detailed) (found : Found) → found.count ≡ 1 → all_detailed found.first.items ≡ take most (d ∷ []) → IsFound most (d ∷ []) found
+pub one_found : (most : ℕ) (d : Assigned) (found : Found) → found.count ≡ 1 → all_assigned found.first.items ≡ take most (d ∷ []) → IsFound most (d ∷ []) found
 one_found most d found count first = record { first = first; count = omega (arith, count) }
 
-pub none_kept : (most : ℕ) (d : Detailed) → most ≤ 0 → [] ≡ take most (d ∷ [])
+pub none_kept : (most : ℕ) (d : Assigned) → most ≤ 0 → [] ≡ take most (d ∷ [])
 none_kept zero d none = refl
 none_kept (suc most) d none = absurd (omega (arith, none))
 
-pub one_kept : (most : ℕ) (d : Detailed) → 0 < most → d ∷ [] ≡ take most (d ∷ [])
+pub one_kept : (most : ℕ) (d : Assigned) → 0 < most → d ∷ [] ≡ take most (d ∷ [])
 one_kept most d some = sym (take_all most (d ∷ []) (omega (arith, some)))
 
 count_both : (m n x y c : ℕ) → x ≡ min m c → y ≡ min n c → min (x + y) c ≡ min (m + n) c
 count_both m n x y c one other = omega (arith, one, other)
 
-module _ (most : ℕ) (all more : List Detailed) (old new others : Found) (before : IsFound most all old) where
+module _ (most : ℕ) (all more : List Assigned) (old new others : Found) (before : IsFound most all old) where
   pub put_after : IsFound (most - length old.first.items) more others → new.first.items ≡ old.first.items ++ others.first.items → new.count ≡ min (old.count + others.count) greatest_count
       → IsFound most (all ++ more) new
   put_after behind firsts counts =
-      let kept : length old.first.items ≡ length (take most all) = sym (length-map old.first.items detailed_of) ∙ ap length before.first in
+      let kept : length old.first.items ≡ length (take most all) = sym (length-map old.first.items assigned_of) ∙ ap length before.first in
       record {
         first =
-            ap all_detailed firsts ∙ map-append detailed_of old.first.items others.first.items
+            ap all_assigned firsts ∙ map-append assigned_of old.first.items others.first.items
             ∙ (λ i. before.first i ++ behind.first i)
             ∙ ap (λ k. take most all ++ take (most - k) more) kept ∙ take_both most all more;
         count =

@@ -10,6 +10,7 @@ use Rattle.asm_state.specs.Words.{value_of_code}
 use Rattle.asm_meaning.specs.Value.{Reading}
 use Rattle.asm_meaning.specs.code.TermValues.{shown}
 use Rattle.asm_meaning.specs.declared.view.View.{View}
+use Rattle.asm_code.specs.code.BoundValues.{bound_of}
 use Rattle.asm_code.specs.code.CodeViews.{code_of, codes_of}
 use Rattle.asm_code.specs.code.Readings.{always, readings}
 use Rattle.asm_code.specs.code.RuleMeaning.{Locations, result_locations}
@@ -18,7 +19,6 @@ use Rattle.asm_eval.specs.code.Evaluation.{frame_locations, location_numbered}
 use Rattle.asm_eval.specs.code.Frames.{by_name, code_value, readings_of, result_contents}
 use Rattle.asm_eval.specs.declared.frame.Frame.{Frame}
 use Rattle.asm_eval.specs.declared.frame.Frame.TheVariants as frame
-use Rattle.asm_clash.specs.code.BoundValues.{bound_of}
 use Rattle.asm_clash.specs.code.StandingRules.{bound_at, bound_in}
 
 module _ (view : View) where

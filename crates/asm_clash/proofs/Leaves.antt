@@ -9,7 +9,7 @@ use Rattle.asm_state.specs.Location.{Location, location_cmp, location_cmp-total,
 use Rattle.asm_state.specs.Signature.{Shape, IsSound, count_of, is_location, location_at, number_at}
 use Rattle.asm_state.proofs.LocationLemmas.NumberedLocations.{number_laws}
 use Rattle.asm_eval.specs.code.Evaluation.{location_numbered}
-use Rattle.asm_clash.specs.code.BoundValues.{Detailed}
+use Rattle.asm_clash.specs.Standing.{Assigned}
 use Rattle.asm_clash.specs.code.StandingCodes.{assigned_at}
 
 same_location : (l m : Location) → is_location l m ≡ true → l ≡ m
@@ -25,7 +25,7 @@ pub no_number : (o : Option ℕ) → ((m : ℕ) → o ≡ Some m → ⊥) → o 
 no_number None other = refl
 no_number (Some m) other = absurd (other m refl)
 
-module _ (shape : Shape) (n : ℕ) (to : Option Location) (o : Option ℕ) (d : Detailed) (is : location_numbered shape o ≡ to) where
+module _ (shape : Shape) (n : ℕ) (to : Option Location) (o : Option ℕ) (d : Assigned) (is : location_numbered shape o ≡ to) where
   pub none_here : o ≡ None → [] ≡ assigned_at (location_at shape n) to d
   none_here none = ap (λ x. assigned_at (location_at shape n) (location_numbered shape x) d) (sym none) ∙ ap (λ x. assigned_at (location_at shape n) x d) is
 

@@ -17,8 +17,7 @@ use Rattle.asm_code.specs.code.RuleTree.{RuleCode}
 use Rattle.asm_eval.specs.code.Frames.{readings_of}
 use Rattle.asm_eval.specs.code.Evaluation.{frame_locations}
 use Rattle.asm_eval.specs.declared.frame.Frame.{Frame}
-use Rattle.asm_clash.specs.Standing.{later}
-use Rattle.asm_clash.specs.code.BoundValues.{Detailed}
+use Rattle.asm_clash.specs.Standing.{later, Assigned}
 use Rattle.asm_clash.specs.code.StandingCodes.{standing}
 use Rattle.asm_clash.specs.code.StandingRules.{IsNext}
 
@@ -26,7 +25,7 @@ module _ (turns : ℕ) (chosen : Path → ℕ) (R : RuleCode) (f : Frame) (n : �
   abbrev yields : Shape → State → Path → Outcome
   yields sh C x = meaning sh turns chosen R (readings_of sh f) (frame_locations sh f) C x
 
-  abbrev stands : Shape → State → Path → List Detailed
+  abbrev stands : Shape → State → Path → List Assigned
   stands sh C x = standing sh turns chosen (location_at sh n) R (readings_of sh f) (frame_locations sh f) gs C x
 
   same_yields : (yields upper B q).result ≡ (yields shape A p).result
@@ -35,14 +34,14 @@ module _ (turns : ℕ) (chosen : Path → ℕ) (R : RuleCode) (f : Frame) (n : �
   same_stands : stands upper B q ≡ stands shape A p
   same_stands i = stands (same i) (shows i) (at i)
 
-  module _ (U : UpdateSet) (before now : List Detailed) (joined : SummaryRanges) (o : Option PartSet) where
+  module _ (U : UpdateSet) (before now : List Assigned) (joined : SummaryRanges) (o : Option PartSet) where
     abbrev Next : Option PartSet → Type 0
     Next x = IsNext shape U (yields shape A p).result (stands shape A p) before now joined x
 
     pub next_exhausted : (e : Path) → o ≡ None → (yields upper B q).result ≡ Exhausted e → now ≡ before → Next o
     next_exhausted e none gives kept = subst Next (sym none) (e, sym same_yields ∙ gives, kept)
 
-    pub next_set : (part : PartSet) (set : SummaryRanges) (instances : ℕ) (own : List Detailed) → o ≡ Some part → IsSet upper (yields upper B q) set instances → own ≡ stands upper B q
+    pub next_set : (part : PartSet) (set : SummaryRanges) (instances : ℕ) (own : List Assigned) → o ≡ Some part → IsSet upper (yields upper B q) set instances → own ≡ stands upper B q
         → ((V : UpdateSet) → Stands shape set V → IsPartSet V part) → ((V : UpdateSet) → Stands shape set V → Stands shape joined (merge U V)) → now ≡ later before own → Next o
     next_set part set instances own some formed found is merged put =
         let V = formed.set in

@@ -16,13 +16,14 @@ use Rattle.asm_meaning.specs.Value.{Reading, is_true}
 use Rattle.asm_meaning.specs.Yields.{Path, at}
 use Rattle.asm_meaning.specs.declared.part.Part.TheVariants as part
 use Rattle.asm_meaning.proofs.Intervals.{interval_laws-all as between_all}
+use Rattle.asm_code.specs.code.BoundValues.{optional_arguments}
 use Rattle.asm_code.specs.code.CodeTree.{Code}
 use Rattle.asm_code.specs.code.Readings.{always, reading, universe_at}
 use Rattle.asm_code.specs.code.RuleMeaning.{Locations, passes, passing, rule_size, rule_sizes}
 use Rattle.asm_code.specs.code.RuleTree.{RuleCode, Skip, Assign, Par, Seq, If, Let, Forall, Choose, Iterate, Call, RuleCodes, no_rules, rule_then}
 use Rattle.asm_eval.specs.code.Opening.{Work, all_of, body_works, choice_works, counted_works, one_work, part_of, part_works, rule_works, span_works, spans}
 use Rattle.asm_eval.specs.code.Pieces.{HasAtMost, all_positions}
-use Rattle.asm_clash.specs.code.BoundValues.{Detailed, optional_arguments}
+use Rattle.asm_clash.specs.Standing.{Assigned}
 use Rattle.asm_clash.specs.code.StandingCodes.{each_stands, one_stands, parts_of, parts_stand, standing}
 use Rattle.asm_clash.specs.code.StandingRules.{given_by}
 
@@ -31,24 +32,24 @@ AreBelow size [] = Unit {0}
 AreBelow size (w ∷ works) = (rule_size w.rule < size) × (w.part ≡ part.Whole) × AreBelow size works
 
 module _ (shape : Shape) (turns : ℕ) (chosen : Path → ℕ) (l : Location) (A : State) (gs : List Value) where
-  abbrev pub work_stands : Work → List Detailed
+  abbrev pub work_stands : Work → List Assigned
   work_stands w = standing shape turns chosen l w.rule w.readings w.locations gs A w.path
 
-  abbrev pub works_stand : List Work → List Detailed
+  abbrev pub works_stand : List Work → List Assigned
   works_stand [] = []
   works_stand (w ∷ works) = work_stands w ++ works_stand works
 
-  abbrev pub AreOpened : (size : ℕ) → List Detailed → Option (List Work × ℕ) → Type 0
+  abbrev pub AreOpened : (size : ℕ) → List Assigned → Option (List Work × ℕ) → Type 0
   AreOpened size all None = Unit {0}
   AreOpened size all (Some found) = (all ≡ works_stand found.0) × AreBelow size found.0
 
-  abbrev stands : RuleCode → List Reading → Locations → Path → List Detailed
+  abbrev stands : RuleCode → List Reading → Locations → Path → List Assigned
   stands R rs ls p = standing shape turns chosen l R rs ls gs A p
 
   one_opened : (size : ℕ) (P : RuleCode) (rs : List Reading) (ls : Locations) (p : Path) (k : ℕ) → rule_size P < size → AreOpened size (stands P rs ls (at p k)) (one_work P rs ls p k)
   one_opened size P rs ls p k low = (sym (append-nil (stands P rs ls (at p k))), (low, refl, tt))
 
-  either_opened : (size : ℕ) (b : Bool) (yes_works no_works : Option (List Work × ℕ)) (all others : List Detailed)
+  either_opened : (size : ℕ) (b : Bool) (yes_works no_works : Option (List Work × ℕ)) (all others : List Assigned)
       → AreOpened size all yes_works → AreOpened size others no_works → AreOpened size (cond b all others) (cond b yes_works no_works)
   either_opened size true yes_works no_works all others opened other = opened
   either_opened size false yes_works no_works all others opened other = other
@@ -73,10 +74,10 @@ module _ (shape : Shape) (turns : ℕ) (chosen : Path → ℕ) (l : Location) (A
     abbrev bodies : ℕ → List Value → List Work
     bodies k vs = body_works shape A c P rs ls p k vs
 
-    abbrev bodies_stand : ℕ → List Value → List Detailed
+    abbrev bodies_stand : ℕ → List Value → List Assigned
     bodies_stand k vs = each_stands (λ v n. stands P (always v ∷ rs) (None ∷ ls) (at p n)) (λ v. passes shape c (always v ∷ rs) A) k vs
 
-    by_both : (b : Bool) (w : Work) (works : List Work) (all : List Detailed) → all ≡ works_stand works → cond b (work_stands w ++ all) all ≡ works_stand (cond b (w ∷ works) works)
+    by_both : (b : Bool) (w : Work) (works : List Work) (all : List Assigned) → all ≡ works_stand works → cond b (work_stands w ++ all) all ≡ works_stand (cond b (w ∷ works) works)
     by_both true w works all same = ap (λ more. work_stands w ++ more) same
     by_both false w works all same = same
 
@@ -119,7 +120,7 @@ module _ (shape : Shape) (turns : ℕ) (chosen : Path → ℕ) (l : Location) (A
 -- ---- a rule, with the arguments that its pieces are given
 
 module _ (shape : Shape) (turns : ℕ) (chosen : Path → ℕ) (l : Location) (A : State) (gs : List Value) where
-  abbrev stands_with : RuleCode → List Reading → Locations → Path → List Detailed
+  abbrev stands_with : RuleCode → List Reading → Locations → Path → List Assigned
   stands_with R rs ls p = standing shape turns chosen l R rs ls gs A p
 
   -- what gs is for its pieces

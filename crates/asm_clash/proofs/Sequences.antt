@@ -28,17 +28,16 @@ use Rattle.asm_code.specs.code.RuleMeaning.{Locations, meaning}
 use Rattle.asm_code.specs.code.RuleTree as tree
 use Rattle.asm_code.specs.code.RuleViews.{rule_of, rules_of}
 use Rattle.asm_code.specs.declared.rule_code.RuleCode.{RuleCode}
-use Rattle.asm_clash.specs.Standing.{later}
-use Rattle.asm_clash.specs.code.BoundValues.{Detailed}
+use Rattle.asm_clash.specs.Standing.{later, Assigned}
 use Rattle.asm_clash.specs.code.StandingCodes.{StandingPart, after_part, after_turn, order_stands, parts_of, standing, turns_stand}
 
 -- ---- later ones
 
-later_group : (xs ys zs : List Detailed) → later (later xs ys) zs ≡ later xs (later ys zs)
+later_group : (xs ys zs : List Assigned) → later (later xs ys) zs ≡ later xs (later ys zs)
 later_group xs ys [] = refl
 later_group xs ys (z ∷ zs) = refl
 
-later_first : (xs : List Detailed) → later [] xs ≡ xs
+later_first : (xs : List Assigned) → later [] xs ≡ xs
 later_first [] = refl
 later_first (x ∷ xs) = refl
 
@@ -47,14 +46,14 @@ later_first (x ∷ xs) = refl
 none_consistent : IsConsistent none
 none_consistent = record { one_value = λ l v w h k. absurd (member_laws.of_none l v h); no_stray = λ f v. member_laws.of_none (Stray f) v }
 
-module _ (shape : Shape) (A : State) (all : List Detailed) where
-  pub record IsWalked (left : State → List Detailed) (found : List Detailed) (so_far : SummaryRanges) : Type 0 where
+module _ (shape : Shape) (A : State) (all : List Assigned) where
+  pub record IsWalked (left : State → List Assigned) (found : List Assigned) (so_far : SummaryRanges) : Type 0 where
     pub set : UpdateSet
     pub stands : Stands shape so_far set
     pub consistent : IsConsistent set
     pub same : all ≡ later found (left (fire A set))
 
-  pub walked_begin : (left : State → List Detailed) (found : List Detailed) (so_far : SummaryRanges) → all ≡ left A → found ≡ [] → Stands shape so_far none → IsWalked left found so_far
+  pub walked_begin : (left : State → List Assigned) (found : List Assigned) (so_far : SummaryRanges) → all ≡ left A → found ≡ [] → Stands shape so_far none → IsWalked left found so_far
   walked_begin left found so_far whole nothing stands = record {
     set = none;
     stands = stands;
@@ -62,8 +61,8 @@ module _ (shape : Shape) (A : State) (all : List Detailed) where
     same = whole ∙ ap left (sym (fire_laws.of_none A)) ∙ sym (later_first (left (fire A none))) ∙ ap (λ xs. later xs (left (fire A none))) (sym nothing);
   }
 
-  module _ (left : State → List Detailed) (found : List Detailed) (so_far : SummaryRanges) (under : IsWalked left found so_far) where
-    pub walked_on : (rest : State → List Detailed) (own now : List Detailed) (joined : SummaryRanges) (V : UpdateSet) → Stands shape joined (merge under.set V) → IsConsistent V
+  module _ (left : State → List Assigned) (found : List Assigned) (so_far : SummaryRanges) (under : IsWalked left found so_far) where
+    pub walked_on : (rest : State → List Assigned) (own now : List Assigned) (joined : SummaryRanges) (V : UpdateSet) → Stands shape joined (merge under.set V) → IsConsistent V
         → left (fire A under.set) ≡ later own (rest (fire (fire A under.set) V)) → now ≡ later found own → IsWalked rest now joined
     walked_on rest own now joined V stands consistent goes is = record {
       set = merge under.set V;
@@ -74,21 +73,21 @@ module _ (shape : Shape) (A : State) (all : List Detailed) where
           ∙ ap (λ B. later (later found own) (rest B)) (sym (merge_laws.firing A under.set V)) ∙ ap (λ xs. later xs (rest (fire A (merge under.set V)))) (sym is);
     }
 
-    pub walked_off : (own now : List Detailed) → left (fire A under.set) ≡ own → now ≡ later found own → now ≡ all
+    pub walked_off : (own now : List Assigned) → left (fire A under.set) ≡ own → now ≡ later found own → now ≡ all
     walked_off own now ends is = is ∙ sym (under.same ∙ ap (later found) ends)
 
-    pub walked_none : (now : List Detailed) → left (fire A under.set) ≡ [] → now ≡ found → now ≡ all
+    pub walked_none : (now : List Assigned) → left (fire A under.set) ≡ [] → now ≡ found → now ≡ all
     walked_none now ends is = is ∙ sym (under.same ∙ ap (later found) ends)
 
 -- ---- what a part makes of what is left
 
-pub was_exhausted : (own : List Detailed) (r : Result) (q : Path) (rest : UpdateSet → List Detailed) → r ≡ Exhausted q → after_part own r rest ≡ []
+pub was_exhausted : (own : List Assigned) (r : Result) (q : Path) (rest : UpdateSet → List Assigned) → r ≡ Exhausted q → after_part own r rest ≡ []
 was_exhausted own r q rest is = ap (λ x. after_part own x rest) is
 
-pub turn_exhausted : (own : List Detailed) (r : Result) (q : Path) (rest : UpdateSet → List Detailed) → r ≡ Exhausted q → after_turn own r rest ≡ []
+pub turn_exhausted : (own : List Assigned) (r : Result) (q : Path) (rest : UpdateSet → List Assigned) → r ≡ Exhausted q → after_turn own r rest ≡ []
 turn_exhausted own r q rest is = ap (λ x. after_turn own x rest) is
 
-module _ (own : List Detailed) (r : Result) (V : UpdateSet) (part : PartSet) (rest : UpdateSet → List Detailed) (gives : r ≡ Gives V) (is : IsPartSet V part) where
+module _ (own : List Assigned) (r : Result) (V : UpdateSet) (part : PartSet) (rest : UpdateSet → List Assigned) (gives : r ≡ Gives V) (is : IsPartSet V part) where
   consistent_is : IsConsistent V → is_consistent V ≡ true
   consistent_is good = (test_laws.consistency V).1 good
 
@@ -137,7 +136,7 @@ good_turn V part_set.Empty is e = cc
 good_turn V part_set.Consistent is e = is
 good_turn V part_set.Inconsistent is e = cc
 
-pub turn_last : (own : List Detailed) (r : Result) (V : UpdateSet) (part : PartSet) (rest : UpdateSet → List Detailed) → r ≡ Gives V → IsPartSet V part → ends_turns part ≡ true
+pub turn_last : (own : List Assigned) (r : Result) (V : UpdateSet) (part : PartSet) (rest : UpdateSet → List Assigned) → r ≡ Gives V → IsPartSet V part → ends_turns part ≡ true
     → after_turn own r rest ≡ own
 turn_last own r V part_set.Empty rest gives is e = last_none own r V part_set.Empty rest gives is is
 turn_last own r V part_set.Consistent rest gives is e = cc
@@ -146,16 +145,16 @@ turn_last own r V part_set.Inconsistent rest gives is e = last_faulty own r V pa
 -- ---- what is left
 
 module _ (shape : Shape) (turns : ℕ) (chosen : Path → ℕ) (l : Location) (rs : List Reading) (ls : Locations) (gs : List Value) (p : Path) where
-  abbrev stands : tree.RuleCode → ℕ → State → List Detailed
+  abbrev stands : tree.RuleCode → ℕ → State → List Assigned
   stands R k B = standing shape turns chosen l R rs ls gs B (at p k)
 
   abbrev yields : tree.RuleCode → ℕ → State → Result
   yields R k B = (meaning shape turns chosen R rs ls B (at p k)).result
 
-  abbrev order_from : ℕ → List RuleCode → State → List Detailed
+  abbrev order_from : ℕ → List RuleCode → State → List Assigned
   order_from i Ps B = order_stands (parts_of shape turns chosen l (rules_of (map rule_of Ps)) rs ls gs) i B p
 
-  abbrev pub order_left : List RuleCode → ℕ → State → List Detailed
+  abbrev pub order_left : List RuleCode → ℕ → State → List Assigned
   order_left Ps i B = order_from i (drop i Ps) B
 
   pub order_next : (Ps : List RuleCode) (i : ℕ) (P : RuleCode) (B : State) → i < length Ps → P ≡ get_or Ps i P
@@ -173,7 +172,7 @@ module _ (shape : Shape) (turns : ℕ) (chosen : Path → ℕ) (l : Location) (r
   abbrev turn_of : tree.RuleCode → StandingPart
   turn_of R = record { yields = λ A p. (meaning shape turns chosen R rs ls A p).result; stands = λ A p. standing shape turns chosen l R rs ls gs A p }
 
-  abbrev pub turns_left : tree.RuleCode → ℕ → State → List Detailed
+  abbrev pub turns_left : tree.RuleCode → ℕ → State → List Assigned
   turns_left R t B = turns_stand (turn_of R) (turns - t) t B p
 
   pub turns_begin : (R : tree.RuleCode) (A : State) → standing shape turns chosen l (tree.Iterate R) rs ls gs A p ≡ turns_left R 0 A

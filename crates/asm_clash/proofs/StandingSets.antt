@@ -54,9 +54,9 @@ module _ (l : Location) where
 
   -- ---- an assignment
 
-  assigned_shown : (m : Location) (w : Value) (p : Path) → Shows (Gives (one m w)) (cond (is_location l m) (record { path = p; value = w } ∷ []) [])
-  assigned_shown m w p =
-      elim (is_location l m) as (λ b. is_location l m ≡ b → AreValuesAt (one m w) l (cond b (record { path = p; value = w } ∷ []) [])) [
+  assigned_shown : (m : Location) (w : Value) (p : Path) (ws bs : List Value) → Shows (Gives (one m w)) (cond (is_location l m) (record { path = p; value = w; arguments = ws; bound = bs } ∷ []) [])
+  assigned_shown m w p ws bs =
+      elim (is_location l m) as (λ b. is_location l m ≡ b → AreValuesAt (one m w) l (cond b (record { path = p; value = w; arguments = ws; bound = bs } ∷ []) [])) [
         | true ↦ λ e v. (
           λ h. let is : w ≡ v = sym ((member_laws.of_one m l w v).0 h).1 in subst (Contains (w ∷ [])) is (first_value w []),
           λ h. (member_laws.of_one m l w v).1 (same_location l m e, sym (only_value v w h)),
@@ -115,7 +115,7 @@ module _ (l : Location) where
 
   pub story_shown : (s : Story) → Shows (outcome_of s).result (stands l s)
   story_shown Silent = none_shown
-  story_shown (Assigns p m w) = assigned_shown m w p
+  story_shown (Assigns p m w ws bs) = assigned_shown m w p ws bs
   story_shown (Chooses p k vs s) = story_shown s
   story_shown (Instance s) = story_shown s
   story_shown (Beside s t) = beside_shown (outcome_of s).result (outcome_of t).result (stands l s) (stands l t) (story_shown s) (story_shown t)

@@ -9,13 +9,13 @@ use Rattle.std.specs.Prelude.{◌≡◌, ℕ, List, length, min, take}
 use Rattle.asm_state.specs.Location.{Location, Stray, State}
 use Rattle.asm_state.specs.Signature.{Shape, location_at}
 use Rattle.asm_state.specs.Updates.{UpdateSet, IsFirstFault}
-use Rattle.asm_updates.specs.code.Faults.{fault_of}
+use Rattle.asm_updates.specs.Faults.{fault_of}
 use Rattle.asm_updates.specs.declared.fault.Fault.{Fault}
 use Rattle.asm_updates.specs.declared.fault.Fault.TheVariants as numbered
 use Rattle.asm_syntax.specs.SourceTree.{Spec}
 use Rattle.asm_reader.specs.ScriptLines.{Script}
 use Rattle.asm_check.specs.Shapes.{shape_of}
-use Rattle.asm_meaning.specs.code.FormedOutcomes.{greatest_count}
+use Rattle.asm_meaning.specs.Does.{greatest_count}
 use Rattle.asm_meaning.specs.Declarations.{specification_of}
 use Rattle.asm_meaning.specs.Run.{AtLimit, AtExhausted, AtFault, Run}
 use Rattle.asm_meaning.specs.Story.{step_tells}

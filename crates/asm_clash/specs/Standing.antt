@@ -1,5 +1,7 @@
 -- Definition. Which assignments' updates stand at a location, in the set that a story gives.
---     Assigned                the path of an assignment, and the value that it gives
+--     Assigned                an assignment: its path, the value that it gives, the values of its
+--                             target's arguments, and those of what is bound there, the innermost
+--                             first
 --     assigned_of, all_assigned     an assignment that the code has found, and a list of them
 --     AreValuesAt U l found   the values of the location in the set are those of the assignments
 --     later earlier last      the last ones if there are some, and else the earlier ones
@@ -17,9 +19,11 @@ use Rattle.asm_clash.specs.declared.assignment.Assignment.{Assignment}
 pub record Assigned : Type 0 where
   pub path : Path
   pub value : Value
+  pub arguments : List Value
+  pub bound : List Value
 
 abbrev pub assigned_of : Assignment → Assigned
-assigned_of a = record { path = a.path; value = a.value }
+assigned_of a = record { path = a.path; value = a.value; arguments = a.arguments.items; bound = a.bound.items }
 
 abbrev pub all_assigned : List Assignment → List Assigned
 all_assigned found = map assigned_of found
@@ -37,7 +41,7 @@ later earlier (a ∷ more) = a ∷ more
 
 abbrev pub stands : Location → Story → List Assigned
 stands l Silent = []
-stands l (Assigns p m v) = cond (is_location l m) (record { path = p; value = v } ∷ []) []
+stands l (Assigns p m v ws bs) = cond (is_location l m) (record { path = p; value = v; arguments = ws; bound = bs } ∷ []) []
 stands l (Chooses p k vs s) = stands l s
 stands l (Instance s) = stands l s
 stands l (Beside s t) = stands l s ++ stands l t

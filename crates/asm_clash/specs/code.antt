@@ -1,7 +1,5 @@
 -- Bridge to the code. What connects the definitions of this crate to its code.
-pub mod BoundValues
+pub mod CodedSteps
 pub mod FirstFound
-pub mod ReadByCode
 pub mod StandingCodes
 pub mod StandingRules
-pub mod StepEnds

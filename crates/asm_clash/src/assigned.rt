@@ -7,7 +7,7 @@ ghost use Rattle.asm_code.specs.code.RuleViews.{target_code_of};
 ghost use Rattle.asm_code.specs.code.SoundCodes.{IsSound};
 ghost use Rattle.asm_eval.specs.code.Frames.{IsSoundFrame};
 ghost use Rattle.asm_eval.specs.code.Evaluation.{target_in};
-ghost use Rattle.asm_clash.specs.code.BoundValues.{all_detailed, detailed_of};
+ghost use Rattle.asm_clash.specs.Standing.{assigned_of, all_assigned};
 ghost use Rattle.asm_clash.specs.code.FirstFound.{IsFound};
 ghost use Rattle.asm_clash.specs.code.StandingCodes.{assigned_at};
 ghost use Rattle.asm_clash.specs.code.StandingRules.{detail_at};
@@ -67,7 +67,7 @@ fn kept<'e>(
     requires sound { IsSoundTarget view.now.signature.now (target_code_of place.now) }
     requires sound_term { IsSound view.now.signature.now (code_of term.now) }
     requires framed { IsSoundFrame view.now.signature.now frame.now }
-    ensures { IfOk result (λ first. all_detailed first.items ≡ take sought.now.most
+    ensures { IfOk result (λ first. all_assigned first.items ≡ take sought.now.most
         (detail_at view.now frame.now sought.now.given.now (target_code_of place.now) (code_of term.now) path.now ∷ [])) }
 {
     let mut first = Vec::new(alloc);
@@ -92,7 +92,7 @@ fn assignment<'e>(
     requires sound { IsSoundTarget view.now.signature.now (target_code_of place.now) }
     requires sound_term { IsSound view.now.signature.now (code_of term.now) }
     requires framed { IsSoundFrame view.now.signature.now frame.now }
-    ensures { IfOk result (λ made. detailed_of made ≡ detail_at view.now frame.now given.now (target_code_of place.now) (code_of term.now) path.now) }
+    ensures { IfOk result (λ made. assigned_of made ≡ detail_at view.now frame.now given.now (target_code_of place.now) (code_of term.now) path.now) }
 {
     let path = Path::of(alloc, path)?;
     let value = value(view, frame, term);

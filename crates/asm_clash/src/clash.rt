@@ -3,18 +3,21 @@ ghost use Rattle.std.specs.Prelude.{IfOk};
 ghost use Rattle.asm_syntax.specs.code.Views.{spec_of};
 ghost use Rattle.asm_meaning.specs.Declarations.{specification_of};
 ghost use Rattle.asm_meaning.specs.Run.{run};
+ghost use Rattle.asm_step.specs.code.Steps.{HasMainRule, specification_in};
 ghost use Rattle.asm_clash.specs.ClashOfRun.{EndsSo};
-ghost use Rattle.asm_clash.specs.code.ReadByCode.{AreReadByCode};
 
 use crate::assignment::Assignment;
+use crate::fault_assignments::{assignments_at, fault_number};
 use crate::found::Found;
-use crate::step_end::{StepEnd, step_end_from};
 use asm_check::Checked;
-use asm_meaning::{Choices, Path};
+use asm_eval::regions::OnThisThread;
+use asm_meaning::laws::run_laws;
+use asm_meaning::{Choices, Forming, Path, Stopped};
 use asm_reader::Script;
 use asm_resolve::laws::resolving_laws;
 use asm_resolve::main_rule::resolve_main;
 use asm_state::state::State;
+use asm_step::{ResolvedSpecification, form_step};
 use asm_updates::fault::Fault;
 use std::alloc::{AllocError, Global};
 
@@ -49,32 +52,68 @@ pub fn clash_of_run(
     steps: u32,
     most: usize,
 ) -> Result<ClashOfRun, AllocError>
-    ensures ends { let s = spec_of checked.now.spec in
+    ensures { let s = spec_of checked.now.spec in
         IfOk result (EndsSo s turns script.now most (run (specification_of s) turns script.now steps)) }
-    ensures reads { let s = spec_of checked.now.spec in
-        IfOk result (AreReadByCode s turns script.now most (run (specification_of s) turns script.now steps)) }
+{
+    let code = resolve_main(alloc, checked)?;
+    let resolved = ResolvedSpecification {
+        checked,
+        code: &code,
+        turns,
+    };
+    let clash = clash_by_code(alloc, &resolved, script, steps, most);
+    drop(code);
+    clash
+}
+
+/// The same of a resolved specification. A set is formed in each step, in the place of the one
+/// before, and is fired into the state.
+fn clash_by_code(
+    alloc: Global,
+    resolved: &ResolvedSpecification<'_>,
+    script: &Script,
+    steps: u32,
+    most: usize,
+) -> Result<ClashOfRun, AllocError>
+    requires { HasMainRule resolved.now }
+    ensures { let m = resolved.now in
+        IfOk result (EndsSo (spec_of m.checked.now.spec) m.turns script.now most (run (specification_in m) m.turns script.now steps)) }
 {
     resolving_laws();
-    let signature = checked.signature();
-    let main = resolve_main(alloc, checked)?;
+    run_laws();
+    let signature = resolved.checked.signature();
     let mut state = State::initial(alloc, signature)?;
+    let mut forming = Forming::new(alloc, signature);
     for done in 0..steps {
         let step = u64::from(done) + 1;
         let choices = Choices { script, step };
-        let step_end = step_end_from(alloc, signature, &main, turns, &choices, &state, most)?;
-        match step_end {
-            StepEnd::Consistent(set) => set.fire_into(&mut state),
-            StepEnd::Exhausted(path) => return Ok(ClashOfRun::Exhausted { step, path }),
-            StepEnd::Faulty { fault, found } => {
-                let Found { first, count } = found;
-                return Ok(ClashOfRun::Faulty {
-                    step,
-                    fault,
-                    assignments: first,
-                    count,
-                });
+        match form_step(
+            alloc,
+            &mut OnThisThread,
+            resolved,
+            &choices,
+            &state,
+            &mut forming,
+        ) {
+            Ok(()) => {}
+            Err(Stopped::Exhausted) => {
+                let path = Path::new(forming.path);
+                return Ok(ClashOfRun::Exhausted { step, path });
             }
+            Err(Stopped::Memory) => return Err(AllocError),
         }
+        if let Some(fault) = forming.set.first_fault(signature) {
+            let location = fault_number(signature, &forming.set, &fault);
+            let found = assignments_at(alloc, resolved, &choices, &state, location, most)?;
+            let Found { first, count } = found;
+            return Ok(ClashOfRun::Faulty {
+                step,
+                fault,
+                assignments: first,
+                count,
+            });
+        }
+        forming.set.fire_into(&mut state);
     }
     Ok(ClashOfRun::Limit)
 }

@@ -1,7 +1,6 @@
 //! The first of some assignments.
 ghost use Rattle.std.specs.Prelude.{◌≡◌, ◌-◌, ◌++◌, ℕ, List, [], length, OnOk};
-ghost use Rattle.asm_clash.specs.Standing.{later};
-ghost use Rattle.asm_clash.specs.code.BoundValues.{Detailed};
+ghost use Rattle.asm_clash.specs.Standing.{later, Assigned};
 ghost use Rattle.asm_clash.specs.code.FirstFound.{IsFound};
 
 use crate::assignment::Assignment;
@@ -35,7 +34,7 @@ impl Found {
 
     /// Puts others after these, of which as many were kept as there was room for.
     pub(crate) fn append(&mut self, others: Found) -> Result<(), AllocError>
-        ensures { (most : ℕ) (all more : List Detailed) → IsFound most all self.old →
+        ensures { (most : ℕ) (all more : List Assigned) → IsFound most all self.old →
             IsFound (most - length self.old.first.items) more others → OnOk result (IsFound most (all ++ more) self.new) }
     {
         let Found { mut first, count } = others;
@@ -46,7 +45,7 @@ impl Found {
 
     /// Puts later ones in their place, if there are any.
     pub(crate) fn put_later(&mut self, own: Found)
-        ensures { (most : ℕ) (all more : List Detailed) → IsFound most all self.old → IsFound most more own → IsFound most (later all more) self.new }
+        ensures { (most : ℕ) (all more : List Assigned) → IsFound most all self.old → IsFound most more own → IsFound most (later all more) self.new }
     {
         if own.count == 0 {
             return;

@@ -11,7 +11,7 @@ ghost use Rattle.asm_code.specs.code.RuleViews.{rule_of, rules_of};
 ghost use Rattle.asm_eval.specs.code.Frames.{IsSoundFrame};
 ghost use Rattle.asm_eval.specs.code.Pieces.{IsPiece};
 ghost use Rattle.asm_eval.specs.code.Evaluation.{rule_upon, evaluation_shape, evaluation_state};
-ghost use Rattle.asm_clash.specs.code.BoundValues.{Detailed};
+ghost use Rattle.asm_clash.specs.Standing.{Assigned};
 ghost use Rattle.asm_clash.specs.code.FirstFound.{IsFound};
 ghost use Rattle.asm_clash.specs.code.StandingRules.{IsNext, order_in, stands_at, stands_in};
 
@@ -185,8 +185,8 @@ fn standing_next<'e, P: Picks>(
     ensures count { so_far.new.count ≡ so_far.old.count }
     ensures next { let p = yields.at path.now number in
         let l = location_at (evaluation_shape evaluation.now) sought.now.location in
-        IfOk result (λ part. (U : UpdateSet) (before : List Detailed) → Stands (evaluation_shape evaluation.now) so_far.old U → IsConsistent U → IsFound sought.now.most before found.old →
-        (now : List Detailed) × IsFound sought.now.most now found.new ×
+        IfOk result (λ part. (U : UpdateSet) (before : List Assigned) → Stands (evaluation_shape evaluation.now) so_far.old U → IsConsistent U → IsFound sought.now.most before found.old →
+        (now : List Assigned) × IsFound sought.now.most now found.new ×
         IsNext (evaluation_shape evaluation.now) U (rule_upon evaluation.now U frame.now p (rule_of rule.now)).result
         (stands_in evaluation.now l sought.now.given.now frame.now p (rule_of rule.now) (fire (evaluation_state evaluation.now) U)) before now so_far.new part) }
 {

@@ -1,4 +1,5 @@
 -- Free. The choices that rules and runs make.
+pub mod AskedGiven
 pub mod AskedOrder
 pub mod AskedParts
 pub mod AskedWorks

@@ -1,7 +1,7 @@
 -- Free. What holds of each, or of some, of a list's elements.
 use Rattle.std.proofs.Common.{◌≡◌, ℕ, zero, suc, ◌+◌, ◌<◌, List, [], ◌∷◌, ◌++◌, length, take, get_or, ◌⊎◌, inl, inr, refl, sym, subst, arith}
 use Rattle.std.proofs.lemmas.List.{take_more}
-use Rattle.asm_explore.specs.code.ListElements.{Each, AnyOf}
+use Rattle.asm_explore.specs.ListElements.{Each, AnyOf}
 
 module _ {X : Type 0} (P : X → Type 0) where
   pub each_append : (xs ys : List X) → Each P xs → Each P ys → Each P (xs ++ ys)

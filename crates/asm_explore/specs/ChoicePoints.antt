@@ -19,7 +19,7 @@ choices_of asked = map (λ a. a.choice) asked
 
 abbrev pub asked : Story → List Asking
 asked Silent = []
-asked (Assigns p l v) = []
+asked (Assigns p l v ws bs) = []
 asked (Chooses p k vs s) = record { choice = record { path = p; number = k }; candidates = vs } ∷ asked s
 asked (Instance s) = asked s
 asked (Beside s t) = asked s ++ asked t

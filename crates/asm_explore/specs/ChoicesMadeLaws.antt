@@ -11,7 +11,7 @@ use Rattle.asm_meaning.specs.Story.{tells}
 use Rattle.asm_meaning.specs.Yields.{Path}
 use Rattle.asm_explore.specs.declared.outcomes.listed_outcome.Choice.{Choice}
 use Rattle.asm_explore.specs.ChoicePoints.{asked, choices_of}
-use Rattle.asm_explore.specs.code.ListElements.{Each}
+use Rattle.asm_explore.specs.ListElements.{Each}
 use Rattle.asm_explore.specs.code.ChoicePaths.{LieBelow}
 
 abbrev pub Takes : (Path → ℕ) → List Choice → Type 0

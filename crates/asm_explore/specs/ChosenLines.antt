@@ -8,12 +8,12 @@
 --                                  same, with a line for each choice that it makes so, and no other
 use Rattle.std.specs.Prelude.{◌≡◌, ◌<◌, ◌⊎◌, ℕ, not, nat_eq, List, length}
 use Rattle.std.specs.List.{filter}
-use Rattle.asm_reader.specs.code.ExactLines.{exactly}
+use Rattle.asm_reader.specs.ExactLines.{exactly}
 use Rattle.asm_reader.specs.ScriptLines.{Line, Script}
 use Rattle.asm_reader.specs.ScriptText.{IsScript, max_script}
 use Rattle.asm_meaning.specs.Run.{Specification, run}
 use Rattle.asm_explore.specs.RunChoices.{chosen_from, lines_forward, of_run}
-use Rattle.asm_explore.specs.code.WrittenScripts.{AnyIsLong, IsTextOf, lines_text, numbers_in}
+use Rattle.asm_explore.specs.WrittenScripts.{AnyIsLong, IsTextOf, lines_text, numbers_in}
 
 abbrev pub chosen_lines : Specification → (turns : ℕ) → Script → (limit : ℕ) → List Line
 chosen_lines specification turns script limit =

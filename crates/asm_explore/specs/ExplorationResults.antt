@@ -18,10 +18,10 @@
 --     IsQuietRun           the run of `rest.steps` steps under the script comes to a quiet state,
 --                          and no shorter one does; its lines are those of the choices of this run
 --     IsExplorationResult  what the whole result says
-use Rattle.std.specs.Prelude.{◌≡◌, ◌≢◌, ◌≤◌, ◌<◌, ◌⊎◌, ◌-◌, ℕ, suc, Bool, true, false, List, ◌∷◌, length, max, take, Option, Some, None, IfSome}
+use Rattle.std.specs.Prelude.{◌≡◌, ◌≢◌, ◌≤◌, ◌<◌, ◌-◌, ℕ, suc, Bool, true, false, List, ◌∷◌, length, max, take, Option, Some, None, IfSome}
 use Rattle.std.specs.String.{string_bytes}
 use Rattle.asm_state.specs.Location.{State}
-use Rattle.asm_reader.specs.code.ExactLines.{exactly}
+use Rattle.asm_reader.specs.ExactLines.{exactly}
 use Rattle.asm_reader.specs.ScriptLines.{Line, Script}
 use Rattle.asm_reader.specs.ScriptText.{IsScript}
 use Rattle.asm_meaning.specs.Run.{AtLimit, Specification, run}
@@ -35,10 +35,10 @@ use Rattle.asm_explore.specs.declared.fault.Fault.TheVariants as fault
 use Rattle.asm_explore.specs.declared.outcomes.outcomes_error.RuleOverLimit.{RuleOverLimit}
 use Rattle.asm_explore.specs.declared.exploration_result.Finding.TheVariants as finding
 use Rattle.asm_explore.specs.ChosenLines.{AreTooLong, chosen_lines}
-use Rattle.asm_explore.specs.code.ListElements.{Each}
+use Rattle.asm_explore.specs.ListElements.{Each}
 use Rattle.asm_explore.specs.Search.{IsAliveOrCrowded, IsQuiet, IsDeadlock, IsSafeUpTo, IsSafe, HoldsBefore, HoldsAlways, GoesWrongIn, StaysWithin, steps_to}
 use Rattle.asm_explore.specs.StateLists.{AreDifferent, Counts, IsAmongFirst}
-use Rattle.asm_explore.specs.code.WrittenScripts.{IsTextOf}
+use Rattle.asm_explore.specs.WrittenScripts.{IsTextOf}
 
 -- up to how many steps it is safe, if that is known
 abbrev pub known_to : Option ℕ → ℕ

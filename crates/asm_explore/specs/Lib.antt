@@ -6,4 +6,9 @@ pub mod ChoicesMadeLaws
 pub mod ChoicePoints
 pub mod RunChoices
 pub mod ChosenLines
+pub mod ListElements
+pub mod ChoiceLines
+pub mod WrittenScripts
+pub mod TakenChoices
+pub mod TooManyOutcomes
 pub mod code

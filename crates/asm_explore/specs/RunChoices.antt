@@ -15,7 +15,7 @@ use Rattle.std.specs.Prelude.{◌≡◌, ℕ, zero, suc, List, [], ◌∷◌, �
 use Rattle.asm_state.specs.Location.{State}
 use Rattle.asm_state.specs.Updates.{fire}
 use Rattle.asm_syntax.specs.SourceTree.{Spec}
-use Rattle.asm_reader.specs.code.ExactLines.{exactly}
+use Rattle.asm_reader.specs.ExactLines.{exactly}
 use Rattle.asm_reader.specs.ScriptLines.{Line, Script}
 use Rattle.asm_meaning.specs.Declarations.{specification_of}
 use Rattle.asm_meaning.specs.Run.{Specification, run}
@@ -25,9 +25,8 @@ use Rattle.asm_explore.specs.declared.choices.choice_point.ChoicePoint.{ChoicePo
 use Rattle.asm_explore.specs.declared.outcomes.listed_outcome.Choice.{Choice}
 use Rattle.asm_explore.specs.declared.choices.run_choices.RunChoices.{RunChoices}
 use Rattle.asm_explore.specs.ChoicePoints.{Asking, choices_of, asked, after_set}
-use Rattle.asm_explore.specs.code.OutcomeLists.{Situation}
-use Rattle.asm_explore.specs.code.ReachedStates.{steps_from}
-use Rattle.asm_explore.specs.code.ScriptTo.{lines_for}
+use Rattle.asm_explore.specs.TakenChoices.{Situation, steps_from}
+use Rattle.asm_explore.specs.ChoiceLines.{lines_for}
 
 -- ---- the steps of a run
 

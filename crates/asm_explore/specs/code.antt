@@ -14,7 +14,6 @@ pub mod Deadlocks
 pub mod ExploredRules
 pub mod FaultMarks
 pub mod IndexedNodes
-pub mod ListElements
 pub mod ListedRules
 pub mod LookedStates
 pub mod MainRule
@@ -24,7 +23,6 @@ pub mod PackedNodes
 pub mod QuietStates
 pub mod ReachedStates
 pub mod ResolvedConditions
-pub mod ScriptTo
 pub mod SearchEnds
 pub mod SettledEnds
 pub mod Sequences
@@ -32,4 +30,3 @@ pub mod StateHashes
 pub mod StepLeads
 pub mod StepOutcomes
 pub mod StepsAhead
-pub mod WrittenScripts

@@ -3,8 +3,7 @@ ghost use Rattle.std.specs.Prelude.{◌<◌, IfOk};
 ghost use Rattle.asm_syntax.specs.code.Views.{spec_of};
 ghost use Rattle.asm_meaning.specs.Declarations.{specification_of};
 ghost use Rattle.asm_explore.specs.ExplorationResults.{IsExplorationResult};
-ghost use Rattle.asm_explore.specs.Conditions.{term_holds};
-ghost use Rattle.asm_explore.specs.code.ResolvedConditions.{holds_in, IsSpecified};
+ghost use Rattle.asm_explore.specs.code.ResolvedConditions.{term_holds, holds_in, IsSpecified};
 ghost use Rattle.asm_explore.specs.code.MainRule.{IsMainOverLimit};
 ghost use Rattle.asm_check.specs.Shapes.{shape_of};
 

@@ -1,7 +1,7 @@
 //! Laws of what is listed, and of what is claimed.
 ghost use Rattle.std.specs.Prelude.{◌≡◌, ℕ, Bool, true, List, []};
 ghost use Rattle.asm_state.specs.Location.{State};
-ghost use Rattle.asm_reader.specs.code.ExactLines.{exactly};
+ghost use Rattle.asm_reader.specs.ExactLines.{exactly};
 ghost use Rattle.asm_reader.specs.ScriptLines.{Line, Script, pick};
 ghost use Rattle.asm_syntax.specs.code.Views.{spec_of};
 ghost use Rattle.asm_syntax.specs.Tree.{Rule};
@@ -18,7 +18,7 @@ ghost use Rattle.asm_resolve.specs.code.RuleScopes.{resolved_rule_in};
 ghost use Rattle.asm_explore.specs.declared.exploration_result.ExplorationResult.{ExplorationResult};
 ghost use Rattle.asm_explore.specs.declared.outcomes.listed_outcome.Choice.{Choice};
 ghost use Rattle.asm_explore.specs.ExplorationResults.{IsExplorationResult};
-ghost use Rattle.asm_explore.specs.code.ListElements.{Each};
+ghost use Rattle.asm_explore.specs.ListElements.{Each};
 ghost use Rattle.asm_explore.specs.declared.outcomes.outcomes_error.RuleOverLimit.{RuleOverLimit};
 ghost use Rattle.asm_explore.specs.code.ChoicesMade.{made_in};
 ghost use Rattle.asm_explore.specs.code.MainRule.{IsMainOverLimit};
@@ -27,11 +27,11 @@ ghost use Rattle.asm_explore.specs.code.ChoicePaths.{HaveOwnPaths};
 ghost use Rattle.asm_explore.specs.code.ChoiceLaws.{ChoiceLaws};
 ghost use Rattle.asm_explore.specs.ChoicesMadeLaws.{MakingLaws};
 ghost use Rattle.asm_explore.specs.code.ReachedStates.{MakesAll};
-ghost use Rattle.asm_explore.specs.code.ScriptTo.{lines_of, needed};
+ghost use Rattle.asm_explore.specs.ChoiceLines.{lines_of, needed};
 ghost use Rattle.asm_explore.specs.declared.scripts.script_line.Zeros.{Zeros};
 ghost use Rattle.asm_explore.specs.declared.scripts.script_line.Zeros.TheVariants.{Written};
 ghost use Rattle.asm_explore.specs.Search.{StaysWithin};
-ghost use Rattle.asm_explore.specs.code.WrittenScripts.{written};
+ghost use Rattle.asm_explore.specs.WrittenScripts.{written};
 
 /// A complete and sound list of a step's outcomes has just what the step may yield, for whatever
 /// choices.

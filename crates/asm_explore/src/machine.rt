@@ -4,14 +4,14 @@ ghost use Rattle.std.specs.String.{string_bytes};
 ghost use Rattle.asm_state.specs.code.Contents.{IsStateOf};
 ghost use Rattle.asm_state.specs.Location.{State as Contents};
 ghost use Rattle.asm_state.specs.Signature.{Shape, count_of, state_of};
-ghost use Rattle.asm_reader.specs.code.ExactLines.{exactly};
+ghost use Rattle.asm_reader.specs.ExactLines.{exactly};
 ghost use Rattle.asm_meaning.specs.Run.{Specification};
 ghost use Rattle.asm_explore.specs.declared.outcomes.listed_outcome.Choice.{Choice};
 ghost use Rattle.asm_explore.specs.code.OutcomeLists.{Situation, Each};
 ghost use Rattle.asm_explore.specs.code.StepsAhead.{AreAhead};
 ghost use Rattle.asm_explore.specs.code.StepOutcomes.{IsListed, IsOverLimitOf};
 ghost use Rattle.asm_explore.specs.code.SearchEnds.{HaltsSo};
-ghost use Rattle.asm_explore.specs.code.ScriptTo.{lines_of};
+ghost use Rattle.asm_explore.specs.ChoiceLines.{lines_of};
 ghost use Rattle.asm_explore.specs.ChosenLines.{AreTooLong, IsChosenText, chosen_lines};
 ghost use Rattle.asm_explore.specs.Search.{IsQuiet};
 

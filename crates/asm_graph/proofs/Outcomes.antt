@@ -13,7 +13,7 @@ use Rattle.asm_state.specs.Location.{State}
 use Rattle.asm_state.specs.Signature.{Shape, count_of, state_of}
 use Rattle.asm_state.specs.Updates.{UpdateSet, Fault, IsConsistent, IsFirstFault, fire}
 use Rattle.asm_updates.specs.code.Stands.{Stands}
-use Rattle.asm_reader.specs.code.ExactLines.{exactly}
+use Rattle.asm_reader.specs.ExactLines.{exactly}
 use Rattle.asm_meaning.specs.Run.{Specification}
 use Rattle.asm_meaning.specs.Yields.{Path, Result, Gives, Exhausted}
 use Rattle.asm_explore.specs.declared.outcomes.listed_outcome.RuleResult.TheVariants as answer
@@ -23,7 +23,7 @@ use Rattle.asm_explore.specs.declared.updates.Updates.{Updates}
 use Rattle.asm_explore.specs.code.OutcomeLists.{Situation, AreTaken, Each, IsCounted, IsSound, Shows}
 use Rattle.asm_explore.specs.code.ChoicePaths.{HaveOwnPaths}
 use Rattle.asm_explore.specs.code.ReachedStates.{LeadBetween, MakesAll, steps_from}
-use Rattle.asm_explore.specs.code.ScriptTo.{lines_of}
+use Rattle.asm_explore.specs.ChoiceLines.{lines_of}
 use Rattle.asm_explore.specs.Search.{LeadsOn}
 use Rattle.asm_explore.specs.code.StepOutcomes.{IsStep}
 use Rattle.asm_graph.specs.declared.graph.Edge.{Edge}

@@ -8,7 +8,7 @@ use Rattle.std.proofs.Common.{◌≡◌, ◌≢◌, ℕ, zero, suc, ◌+◌, ◌
 use Rattle.std.specs.Prelude.{slice_get, Some}
 use Rattle.std.proofs.lemmas.List.{take_more, take-append-le}
 use Rattle.std.proofs.lemmas.Option.{get_or_from_slice_get, slice_get-get_or, slice_get_within}
-use Rattle.asm_explore.specs.code.ListElements.{Each, AnyOf}
+use Rattle.asm_explore.specs.ListElements.{Each, AnyOf}
 use Rattle.asm_graph.specs.Graphs.{AreApart, Pairs}
 
 module _ {X : Type 0} (P : X → Type 0) where

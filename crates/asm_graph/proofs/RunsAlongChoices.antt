@@ -8,7 +8,7 @@ use Rattle.std.proofs.lemmas.Bool.{cases_lt}
 use Rattle.asm_state.specs.Location.{State}
 use Rattle.asm_state.specs.Updates.{UpdateSet, IsConsistent, fire}
 use Rattle.asm_state.proofs.UpdateLemmas.Updates.{test_laws}
-use Rattle.asm_reader.specs.code.ExactLines.{exactly}
+use Rattle.asm_reader.specs.ExactLines.{exactly}
 use Rattle.asm_reader.specs.ScriptLines.{Script}
 use Rattle.asm_meaning.specs.Does.{Outcome, does}
 use Rattle.asm_meaning.specs.Program.{nothing_bound}
@@ -19,7 +19,7 @@ use Rattle.asm_explore.specs.ExplorationResults.{IsReachedBy}
 use Rattle.asm_explore.specs.code.OutcomeLists.{Situation, Each}
 use Rattle.asm_explore.specs.code.ChoicePaths.{HaveOwnPaths}
 use Rattle.asm_explore.specs.code.ReachedStates.{steps_from, LeadTo, MakesAll}
-use Rattle.asm_explore.specs.code.ScriptTo.{lines_of}
+use Rattle.asm_explore.specs.ChoiceLines.{lines_of}
 use Rattle.asm_explore.specs.Search.{LeadsOn}
 use Rattle.asm_graph.specs.code.GraphSoFar.{IsLed}
 

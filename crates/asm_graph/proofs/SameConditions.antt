@@ -5,7 +5,7 @@
 --     same_refusal      so it is of why there is none
 use Rattle.std.proofs.Common.{◌≡◌, ℕ, Bool, List, Result, Ok, Err, length, ap, sym, subst, ◌∙◌}
 use Rattle.std.specs.Prelude.{IfErr, IsErrAnd}
-use Rattle.asm_reader.specs.code.ExactLines.{exactly}
+use Rattle.asm_reader.specs.ExactLines.{exactly}
 use Rattle.asm_state.specs.Location.{State}
 use Rattle.asm_state.specs.Signature.{Shape, count_of}
 use Rattle.asm_meaning.specs.Run.{Specification}
@@ -14,7 +14,7 @@ use Rattle.asm_explore.specs.declared.outcomes.outcomes_error.RuleOverLimit.{Rul
 use Rattle.asm_explore.specs.code.OutcomeLists.{Each}
 use Rattle.asm_explore.specs.code.ChoicePaths.{HaveOwnPaths}
 use Rattle.asm_explore.specs.code.ReachedStates.{MakesAll}
-use Rattle.asm_explore.specs.code.ScriptTo.{lines_of}
+use Rattle.asm_explore.specs.ChoiceLines.{lines_of}
 use Rattle.asm_graph.specs.declared.graph_error.GraphError.{GraphError}
 use Rattle.asm_graph.specs.declared.graph.Graph.{Graph}
 use Rattle.asm_graph.specs.declared.graph.Node.{Node}

@@ -39,9 +39,8 @@ use Rattle.asm_meaning.specs.Run.{AtLimit, Specification, run}
 use Rattle.asm_meaning.specs.Yields.{Result, Gives, Exhausted}
 use Rattle.asm_explore.specs.declared.outcomes.outcomes_error.RuleOverLimit.{RuleOverLimit}
 use Rattle.asm_explore.specs.ExplorationResults.{IsReachedBy}
-use Rattle.asm_explore.specs.code.OutcomeLists.{Situation, AreTaken, Each, AnyOf}
-use Rattle.asm_explore.specs.code.ChoicePaths.{HaveOwnPaths}
-use Rattle.asm_explore.specs.code.ReachedStates.{steps_from}
+use Rattle.asm_explore.specs.ListElements.{Each, AnyOf}
+use Rattle.asm_explore.specs.TakenChoices.{Situation, AreTaken, HaveOwnPaths, steps_from}
 use Rattle.asm_explore.specs.Search.{LeadsOn, IsQuiet, StaysWithin}
 use Rattle.asm_graph.specs.declared.graph.Edge.{Edge}
 use Rattle.asm_graph.specs.declared.graph.Graph.{Graph}

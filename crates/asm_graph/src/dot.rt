@@ -5,7 +5,7 @@ ghost use Rattle.std.specs.List.{flat_map, list_any};
 ghost use Rattle.asm_state.specs.Signature.{count_of};
 ghost use Rattle.asm_syntax.specs.code.Views.{spec_of};
 ghost use Rattle.asm_check.specs.Shapes.{shape_of};
-ghost use Rattle.asm_explore.specs.code.ListElements.{Each};
+ghost use Rattle.asm_explore.specs.ListElements.{Each};
 ghost use Rattle.asm_graph.specs.Dot as text;
 ghost use Rattle.asm_graph.specs.declared.graph.Node.{Node};
 

@@ -1,6 +1,6 @@
 //! Finding the node that has a state.
 ghost use Rattle.std.specs.Prelude.{◌≡◌, ◌≢◌, ◌↔◌, IsTrue, IfNone, IfSome, length};
-ghost use Rattle.asm_explore.specs.code.ListElements.{Each};
+ghost use Rattle.asm_explore.specs.ListElements.{Each};
 ghost use Rattle.asm_graph.specs.code.GraphSoFar.{HasContents, hash_in, with_code};
 ghost use Rattle.asm_graph.specs.declared.graph.Node.{Node};
 

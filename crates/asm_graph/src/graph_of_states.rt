@@ -3,8 +3,7 @@ ghost use Rattle.std.specs.Prelude.{◌<◌, IfErr, IfOk};
 ghost use Rattle.asm_check.specs.Shapes.{shape_of};
 ghost use Rattle.asm_meaning.specs.Declarations.{specification_of};
 ghost use Rattle.asm_syntax.specs.code.Views.{spec_of};
-ghost use Rattle.asm_explore.specs.Conditions.{term_holds};
-ghost use Rattle.asm_explore.specs.code.ResolvedConditions.{IsSpecified, holds_in};
+ghost use Rattle.asm_explore.specs.code.ResolvedConditions.{term_holds, IsSpecified, holds_in};
 ghost use Rattle.asm_explore.specs.code.MainRule.{IsMainOverLimit};
 ghost use Rattle.asm_graph.specs.Graphs.{IsGraph, IsRefusal};
 

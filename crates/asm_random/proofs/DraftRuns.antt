@@ -8,7 +8,7 @@ use Rattle.std.specs.BTreeMap.{BTreeMap}
 use Rattle.std.specs.Option.{option_or}
 use Rattle.std.specs.Prelude.{Bool, None}
 use Rattle.asm_state.specs.Location.{State}
-use Rattle.asm_reader.specs.code.ExactLines.{exactly}
+use Rattle.asm_reader.specs.ExactLines.{exactly}
 use Rattle.asm_reader.specs.ScriptLines.{exact_choice, pick}
 use Rattle.asm_meaning.specs.Run.{Run, Specification, run}
 use Rattle.asm_explore.specs.Search.{IsAliveOrCrowded}

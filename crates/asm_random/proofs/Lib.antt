@@ -1,10 +1,7 @@
-mod BareViews
 mod ChoicelessSteps
 mod DraftLines
 mod DraftRuns
 mod Endings
-mod FirstFaults
-mod OneStep
 mod QuietSteps
 mod RunsSoFar
 mod SameRuns

@@ -15,7 +15,7 @@
 use Rattle.std.specs.Prelude.{◌≡◌, ◌↔◌, ◌+◌, ◌≤◌, ℕ, suc, Bool, false, List}
 use Rattle.std.specs.String.{string_bytes}
 use Rattle.asm_state.specs.Location.{State}
-use Rattle.asm_reader.specs.code.ExactLines.{exactly}
+use Rattle.asm_reader.specs.ExactLines.{exactly}
 use Rattle.asm_reader.specs.ScriptLines.{Line, Script}
 use Rattle.asm_reader.specs.ScriptText.{IsScript}
 use Rattle.asm_meaning.specs.Run.{Specification}
@@ -30,7 +30,7 @@ use Rattle.asm_random.specs.declared.bad_draft.BadDraft.{BadDraft}
 use Rattle.asm_random.specs.BadDrafts.{IsWrongUnder}
 use Rattle.asm_explore.specs.ChosenLines.{AreTooLong, chosen_lines}
 use Rattle.asm_explore.specs.Search.{steps_to}
-use Rattle.asm_explore.specs.code.WrittenScripts.{IsTextOf}
+use Rattle.asm_explore.specs.WrittenScripts.{IsTextOf}
 use Rattle.asm_random.specs.Drafts.{draft_lines}
 use Rattle.asm_random.specs.FineRuns.{AreFine}
 

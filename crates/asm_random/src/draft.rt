@@ -1,6 +1,6 @@
 //! Which candidates a run takes, as far as it is drawn.
 ghost use Rattle.std.specs.Prelude.{◌≡◌, ℕ, [], unwrap_or};
-ghost use Rattle.asm_reader.specs.code.ExactLines.{exactly};
+ghost use Rattle.asm_reader.specs.ExactLines.{exactly};
 ghost use Rattle.asm_reader.specs.ScriptLines.{exact_choice};
 ghost use Rattle.asm_random.specs.Drafts.{draft_lines, lines_in};
 

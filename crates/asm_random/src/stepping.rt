@@ -1,82 +1,19 @@
 //! A step, under the choices of a script.
-ghost use Rattle.std.specs.Prelude.{◌≡◌, [], false, true, IfOk, IsTrue};
+ghost use Rattle.std.specs.Prelude.{◌≡◌, false, true, IfOk, IsTrue};
 ghost use Rattle.asm_state.specs.code.Contents.{IsStateOf};
 ghost use Rattle.asm_state.specs.Signature.{state_of};
-ghost use Rattle.asm_syntax.specs.code.Views.{spec_of};
-ghost use Rattle.asm_check.specs.Faults.{inits};
-ghost use Rattle.asm_check.specs.Shapes.{shape_of};
-ghost use Rattle.asm_meaning.specs.Declarations.{main_rule, program_of};
-ghost use Rattle.asm_meaning.specs.Does.{does};
-ghost use Rattle.asm_meaning.specs.code.FormedOutcomes.{Follows, IsFormed};
-ghost use Rattle.asm_meaning.specs.Program.{nothing_bound};
-ghost use Rattle.asm_meaning.specs.code.TermValues.{shown};
-ghost use Rattle.asm_eval.specs.code.Evaluation.{HasLocations, evaluation_shape, evaluation_state};
 ghost use Rattle.asm_explore.specs.code.ResolvedConditions.{IsSpecified};
 ghost use Rattle.asm_random.specs.code.WrongSteps.{MakesStep};
 ghost use Rattle.asm_random.specs.code.ResolvedRuns.{IsDead, IsPassed, right_in, shape_in, specification_in};
 
 use crate::deadlock::is_deadlock;
 use crate::position::Position;
-use asm_eval::evaluation::Evaluation;
-use asm_eval::form::form;
-use asm_eval::frame::Frame;
-use asm_eval::regions::OnThisThread;
 use asm_explore::{Fault, Machine, ResolvedQuestion, is_same_state};
-use asm_meaning::laws::from_nothing_laws;
-use asm_meaning::{Choices, Forming, Outcome, Stopped, View};
+use asm_meaning::Choices;
 use asm_reader::Picks;
-use asm_resolve::laws::resolving_laws;
 use asm_state::state::State;
-use asm_updates::summary::Summary;
+use asm_step::{ResolvedSpecification, Step, make_step};
 use std::alloc::{AllocError, Global};
-
-/// Forms what the main rule yields.
-fn form_main<P: Picks>(
-    alloc: Global,
-    specified: &ResolvedQuestion<'_>,
-    evaluation: &Evaluation<'_, '_, P>,
-    forming: &mut Forming,
-) -> Result<(), Stopped>
-    requires sound { IsSpecified specified.now }
-    requires shaped { evaluation_shape evaluation.now ≡ shape_of (spec_of specified.now.checked.now.spec) }
-    requires fits { HasLocations evaluation.now forming.old }
-    ensures { let s = spec_of specified.now.checked.now.spec in
-        let o = does (program_of s) evaluation.now.turns (P.script evaluation.now.choices.now.script.now) evaluation.now.choices.now.step (evaluation_state evaluation.now) nothing_bound forming.old.path.items (main_rule s (inits s)) in
-        Follows (evaluation_shape evaluation.now) o forming.old forming.new result }
-{
-    resolving_laws();
-    form(
-        alloc,
-        &mut OnThisThread,
-        evaluation,
-        &Frame::Empty,
-        specified.code,
-        forming,
-    )
-}
-
-/// What the step with these choices yields in what the view shows.
-fn step_outcome<P: Picks>(
-    alloc: Global,
-    specified: &ResolvedQuestion<'_>,
-    view: &View<'_>,
-    choices: &Choices<'_, P>,
-) -> Result<Outcome, AllocError>
-    requires sound { IsSpecified specified.now }
-    requires shaped { view.now.signature.now ≡ shape_of (spec_of specified.now.checked.now.spec) }
-    ensures { let s = spec_of specified.now.checked.now.spec in
-        IfOk result (IsFormed (shape_of s) (does (program_of s) specified.now.turns (P.script choices.now.script.now) choices.now.step (shown view.now) nothing_bound [] (main_rule s (inits s)))) }
-{
-    from_nothing_laws::<()>();
-    let mut forming = Forming::at(alloc, view.signature, &[])?;
-    let evaluation = Evaluation {
-        view,
-        choices,
-        turns: specified.turns,
-    };
-    let formed = form_main(alloc, specified, &evaluation, &mut forming);
-    forming.into_outcome(formed)
-}
 
 /// The state that the step leads to, if it isn't faulty.
 fn next_state<P: Picks>(
@@ -90,18 +27,17 @@ fn next_state<P: Picks>(
     ensures { let m = specified.now in
         IfOk result (MakesStep (specification_in m) m.turns (P.script choices.now.script.now) (right_in m) (IsDead m) (λ next. next) choices.now.step (shape_in m) state.now) }
 {
-    let signature = specified.checked.signature();
-    let nothing = Summary::new(alloc, signature.count());
-    let view = View::new(signature, state, &nothing);
-    let set = match step_outcome(alloc, specified, &view, choices)? {
-        Outcome::Set { set, .. } => set,
-        Outcome::Exhausted(_) => return Ok(Err(Fault::Exhausted)),
+    let resolved = ResolvedSpecification {
+        checked: specified.checked,
+        code: specified.code,
+        turns: specified.turns,
     };
-    if set.first_fault(signature).is_some() {
-        return Ok(Err(Fault::Inconsistent));
+    let made = make_step(alloc, &resolved, choices, state)?;
+    match made {
+        Step::Next(next) => Ok(Ok(next)),
+        Step::Faulty(_) => Ok(Err(Fault::Inconsistent)),
+        Step::Exhausted(_) => Ok(Err(Fault::Exhausted)),
     }
-    let next = set.fire(alloc, signature, state)?;
-    Ok(Ok(next))
 }
 
 /// Whether the state from which a step was made is seen to be a deadlock. This is looked at if the

@@ -3,9 +3,9 @@
 --                                 their number is that of all
 use Rattle.std.specs.Prelude.{◌≡◌, ℕ, List, length, min, take}
 use Rattle.asm_meaning.specs.code.FormedOutcomes.{greatest_count}
-use Rattle.asm_clash.specs.code.BoundValues.{Detailed, all_detailed}
+use Rattle.asm_clash.specs.Standing.{Assigned, all_assigned}
 use Rattle.asm_clash.specs.declared.found.Found.{Found}
 
-pub record IsFound (most : ℕ) (all : List Detailed) (found : Found) : Type 0 where
-  pub first : all_detailed found.first.items ≡ take most all
+pub record IsFound (most : ℕ) (all : List Assigned) (found : Found) : Type 0 where
+  pub first : all_assigned found.first.items ≡ take most all
   pub count : found.count ≡ min (length all) greatest_count

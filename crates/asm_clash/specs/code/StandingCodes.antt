@@ -9,8 +9,7 @@
 --                             those of P at the location l, in the state A and at the path p, if the
 --                             positions stand for rs, and for the locations ls, if they stand for
 --                             any; `result` for one with the arguments gs
---     StandingIsTold          if P yields a set, their paths and values are those of the assignments
---                             that stand in its story
+--     StandingIsTold          if P yields a set, they are those that stand in its story
 use Rattle.std.specs.Prelude.{◌≡◌, ℕ, zero, suc, ◌%◌, ◌++◌, Bool, cond, not, ◌||◌, List, [], ◌∷◌, Option, Some, None, slice_index_or, length}
 use Rattle.asm_state.specs.declared.value.Value.{Value}
 use Rattle.asm_state.specs.Location.{Location, State}
@@ -19,16 +18,16 @@ use Rattle.asm_state.specs.Updates.{UpdateSet, is_consistent, is_none, fire}
 use Rattle.asm_meaning.specs.Does.{Outcome}
 use Rattle.asm_meaning.specs.Value.{Reading, is_true}
 use Rattle.asm_meaning.specs.Yields.{Path, Result, Gives, Exhausted, at}
+use Rattle.asm_code.specs.code.BoundValues.{arguments_of, bound_of, optional_arguments}
 use Rattle.asm_code.specs.code.Readings.{always, reading, universe_at}
 use Rattle.asm_code.specs.code.RuleMeaning.{Locations, meaning, passes, passing, target_location, named_readings, optional_target_location, result_readings, result_locations}
 use Rattle.asm_code.specs.code.RuleStories.{telling}
 use Rattle.asm_code.specs.code.CodeTree.{Code}
 use Rattle.asm_code.specs.code.RuleTree.{Place, RuleCode, Skip, Assign, Par, Seq, If, Let, Forall, Choose, Iterate, Call, RuleCodes, no_rules, rule_then}
-use Rattle.asm_clash.specs.Standing.{later, stands}
-use Rattle.asm_clash.specs.code.BoundValues.{Detailed, all_assigned_by, arguments_of, bound_of, optional_arguments}
+use Rattle.asm_clash.specs.Standing.{later, stands, Assigned}
 
 abbrev pub Standing : Type 0
-Standing = State → Path → List Detailed
+Standing = State → Path → List Assigned
 
 -- a part: what it yields, and the assignments whose updates stand in that
 pub record StandingPart : Type 0 where
@@ -39,22 +38,22 @@ abbrev part : (State → Path → Outcome) → Standing → StandingPart
 part does stands = record { yields = λ A p. (does A p).result; stands = stands }
 
 -- those of a part of a sequence and of what comes after it, if the sequence goes on
-abbrev pub after_part : List Detailed → Result → (UpdateSet → List Detailed) → List Detailed
+abbrev pub after_part : List Assigned → Result → (UpdateSet → List Assigned) → List Assigned
 after_part own (Exhausted q) rest = []
 after_part own (Gives U) rest = cond (is_consistent U) (later own (rest U)) own
 
 -- those of a turn and of the turns after it
-abbrev pub after_turn : List Detailed → Result → (UpdateSet → List Detailed) → List Detailed
+abbrev pub after_turn : List Assigned → Result → (UpdateSet → List Assigned) → List Assigned
 after_turn own (Exhausted q) rest = []
 after_turn own (Gives U) rest = cond (is_none U || not (is_consistent U)) own (later own (rest U))
 
 -- an assignment to the location that a target names, if it names one
-abbrev pub assigned_at : Location → Option Location → Detailed → List Detailed
+abbrev pub assigned_at : Location → Option Location → Assigned → List Assigned
 assigned_at l None d = []
 assigned_at l (Some m) d = cond (is_location l m) (d ∷ []) []
 
 -- what an assignment of a code's value to a target reads
-abbrev pub detail : Shape → Place → Code → List Reading → Locations → (given : List Value) → State → Path → Detailed
+abbrev pub detail : Shape → Place → Code → List Reading → Locations → (given : List Value) → State → Path → Assigned
 detail shape to t rs ls gs A p = record { path = p; value = reading shape t rs A; arguments = arguments_of shape to rs gs A; bound = bound_of rs ls A }
 
 -- parts beside each other, from number k on
@@ -68,12 +67,12 @@ order_stands [] k A p = []
 order_stands (m ∷ ms) k A p = after_part (m.stands A (at p k)) (m.yields A (at p k)) (λ U. order_stands ms (suc k) (fire A U) p)
 
 -- the elements from position k on for which a condition holds
-abbrev pub each_stands : (Value → ℕ → List Detailed) → (Value → Bool) → ℕ → List Value → List Detailed
+abbrev pub each_stands : (Value → ℕ → List Assigned) → (Value → Bool) → ℕ → List Value → List Assigned
 each_stands m test k [] = []
 each_stands m test k (v ∷ vs) = cond (test v) (m v k ++ each_stands m test (suc k) vs) (each_stands m test (suc k) vs)
 
 -- the candidate with this number, modulo their number
-abbrev pub one_stands : ℕ → List Value → (Value → List Detailed) → List Detailed → List Detailed
+abbrev pub one_stands : ℕ → List Value → (Value → List Assigned) → List Assigned → List Assigned
 one_stands n [] m other = other
 one_stands n (v ∷ vs) m other = m (slice_index_or (v ∷ vs) (n % length (v ∷ vs)) v)
 
@@ -105,4 +104,4 @@ module _ (shape : Shape) (turns : ℕ) (chosen : Path → ℕ) (l : Location) wh
 
 abbrev pub StandingIsTold : Type 0
 StandingIsTold = (shape : Shape) (turns : ℕ) (chosen : Path → ℕ) (l : Location) (P : RuleCode) (rs : List Reading) (ls : Locations) (gs : List Value) (A : State) (p : Path) (U : UpdateSet)
-    → (meaning shape turns chosen P rs ls A p).result ≡ Gives U → all_assigned_by (standing shape turns chosen l P rs ls gs A p) ≡ stands l (telling shape turns chosen P rs ls A p)
+    → (meaning shape turns chosen P rs ls A p).result ≡ Gives U → standing shape turns chosen l P rs ls gs A p ≡ stands l (telling shape turns chosen P rs ls gs A p)

@@ -25,6 +25,7 @@ use Rattle.asm_meaning.specs.Yields.{Path, Result, Gives, Exhausted}
 use Rattle.asm_meaning.specs.declared.part_set.PartSet.{PartSet}
 use Rattle.asm_meaning.specs.code.TermValues.{shown}
 use Rattle.asm_meaning.specs.declared.view.View.{View}
+use Rattle.asm_code.specs.code.BoundValues.{arguments_of, bound_of, optional_arguments}
 use Rattle.asm_code.specs.code.CodeTree.{Code}
 use Rattle.asm_code.specs.code.RuleTree.{Place, RuleCode, Call, RuleCodes}
 use Rattle.asm_eval.specs.code.Frames.{code_value, readings_of}
@@ -32,18 +33,17 @@ use Rattle.asm_eval.specs.code.Evaluation.{evaluation_choices, frame_locations, 
 use Rattle.asm_eval.specs.declared.frame.Frame.{Frame}
 use Rattle.asm_eval.specs.declared.frame.Frame.TheVariants as frame
 use Rattle.asm_eval.specs.declared.evaluation.Evaluation.{Evaluation}
-use Rattle.asm_clash.specs.Standing.{later}
-use Rattle.asm_clash.specs.code.BoundValues.{Detailed, arguments_of, bound_of, optional_arguments}
+use Rattle.asm_clash.specs.Standing.{later, Assigned}
 use Rattle.asm_clash.specs.code.StandingCodes.{detail, order_stands, parts_of, standing}
 
 module _ {P : Type 0} {picks : Ghosts P} (at : Evaluation P picks) (l : Location) (gs : List Value) where
-  abbrev pub stands_in : Frame → Path → RuleCode → State → List Detailed
+  abbrev pub stands_in : Frame → Path → RuleCode → State → List Assigned
   stands_in f p R A = standing (evaluation_shape at) at.turns (evaluation_choices at) l R (readings_of (evaluation_shape at) f) (frame_locations (evaluation_shape at) f) gs A p
 
-  abbrev pub stands_at : Frame → Path → RuleCode → List Detailed
+  abbrev pub stands_at : Frame → Path → RuleCode → List Assigned
   stands_at f p R = stands_in f p R (evaluation_state at)
 
-  abbrev pub order_in : Frame → Path → ℕ → RuleCodes → State → List Detailed
+  abbrev pub order_in : Frame → Path → ℕ → RuleCodes → State → List Assigned
   order_in f p k Rs A = order_stands (parts_of (evaluation_shape at) at.turns (evaluation_choices at) l Rs (readings_of (evaluation_shape at) f) (frame_locations (evaluation_shape at) f) gs) k A p
 
 abbrev pub arguments_at : View → Frame → (given : List Value) → Place → List Value
@@ -72,11 +72,11 @@ bound_in view (frame.Terms' answer codes p caller) = map (code_value view caller
 abbrev pub bound_at : View → Frame → List Value
 bound_at view f = bound_of (readings_of view.signature.now f) (frame_locations view.signature.now f) (shown view)
 
-abbrev pub detail_at : View → Frame → (given : List Value) → Place → Code → Path → Detailed
+abbrev pub detail_at : View → Frame → (given : List Value) → Place → Code → Path → Assigned
 detail_at view f gs to t p = detail view.signature.now to t (readings_of view.signature.now f) (frame_locations view.signature.now f) gs (shown view) p
 
 -- of a part with this result, in whose set these assignments stand, after the set U and the
 -- assignments that stood before; none if it is exhausted
-abbrev pub IsNext : Shape → UpdateSet → Result → (own before now : List Detailed) → (so_far : SummaryRanges) → Option PartSet → Type 0
+abbrev pub IsNext : Shape → UpdateSet → Result → (own before now : List Assigned) → (so_far : SummaryRanges) → Option PartSet → Type 0
 IsNext shape U r own before now so_far None = (q : Path) × (r ≡ Exhausted q) × (now ≡ before)
 IsNext shape U r own before now so_far (Some part) = (V : UpdateSet) × (r ≡ Gives V) × IsPartSet V part × Stands shape so_far (merge U V) × (now ≡ later before own)

@@ -25,6 +25,7 @@ use Rattle.asm_meaning.specs.code.PartSets.{IsPartSet, ends_parts, ends_turns}
 use Rattle.asm_meaning.specs.Yields.{Path, Result, Gives, Exhausted, at}
 use Rattle.asm_meaning.specs.declared.part_set.PartSet.{PartSet}
 use Rattle.asm_meaning.proofs.Sequences.{part_laws-consistent_part as consistent_part, part_laws-ending_part as ending_part, part_laws-some_turn as some_turn, part_laws-consistent_turn as consistent_turn, part_laws-ending_turn as ending_turn}
+use Rattle.asm_code.specs.code.BoundValues.{arguments_of, bound_of}
 use Rattle.asm_code.specs.code.CodeTree as codes
 use Rattle.asm_code.specs.code.Readings.{reading}
 use Rattle.asm_code.specs.code.RuleMeaning.{target_location}
@@ -197,7 +198,7 @@ module _ {P : Type 0} {picks : Ghosts P} (evaluation : Evaluation P picks) (f : 
   unfolding telling
   order_next Rs i R low is B =
       at_drop_more (λ (some : List RuleCode). order_asked evaluation f p i (rules_of (map rule_of some)) B) Rs i R low
-      ∙ order_first (evaluation_shape evaluation) evaluation.turns (evaluation_choices evaluation) (rule_of (get_or Rs i R)) (readings_of (evaluation_shape evaluation) f) (frame_locations (evaluation_shape evaluation) f)
+      ∙ order_first (evaluation_shape evaluation) evaluation.turns (evaluation_choices evaluation) (rule_of (get_or Rs i R)) (readings_of (evaluation_shape evaluation) f) (frame_locations (evaluation_shape evaluation) f) []
       (rules_of (map rule_of (drop (i + 1) Rs))) i B p
       ∙ ap (λ k. asks_at evaluation f (at p i) (rule_of (get_or Rs i R)) B
       ++ after_set (rule_in evaluation f (at p i) (rule_of (get_or Rs i R)) B).result (λ V. order_asked evaluation f p k (rules_of (map rule_of (drop (i + 1) Rs))) (fire B V))) (sym (add-one i))
@@ -217,7 +218,7 @@ module _ {P : Type 0} {picks : Ghosts P} (evaluation : Evaluation P picks) (f : 
   pub turns_next : (R : tree.RuleCode) (left t : ℕ) (B : State)
       → turns_left R (suc left) t B ≡ asks_at evaluation f (at p t) R B ++ after_turn_set (rule_in evaluation f (at p t) R B).result (λ V. turns_left R left (t + 1) (fire B V))
   turns_next R left t B =
-      turns_first (evaluation_shape evaluation) evaluation.turns (evaluation_choices evaluation) R (readings_of (evaluation_shape evaluation) f) (frame_locations (evaluation_shape evaluation) f) left t B p
+      turns_first (evaluation_shape evaluation) evaluation.turns (evaluation_choices evaluation) R (readings_of (evaluation_shape evaluation) f) (frame_locations (evaluation_shape evaluation) f) [] left t B p
       ∙ ap (λ k. asks_at evaluation f (at p t) R B ++ after_turn_set (rule_in evaluation f (at p t) R B).result (λ V. turns_left R left k (fire B V))) (sym (add-one t))
 
   -- of `all` turns
@@ -239,6 +240,8 @@ module _ {P : Type 0} {picks : Ghosts P} (evaluation : Evaluation P picks) (f : 
   pub assign_none : (R : tree.RuleCode) (to : tree.Place) (t : codes.Code) (B : State) → R ≡ tree.Assign to t → asks_at evaluation f p R B ≡ []
   unfolding telling
   assign_none R to t B is =
-      let rs = readings_of (evaluation_shape evaluation) f in
+      let shape = evaluation_shape evaluation in
+      let rs = readings_of shape f in
+      let ls = frame_locations shape f in
       ap (λ Q. asks_at evaluation f p Q B) is
-      ∙ target_asks p (target_location (evaluation_shape evaluation) to rs (frame_locations (evaluation_shape evaluation) f) B) (reading (evaluation_shape evaluation) t rs B)
+      ∙ target_asks p (target_location shape to rs ls B) (reading shape t rs B) (arguments_of shape to rs [] B) (bound_of rs ls B)

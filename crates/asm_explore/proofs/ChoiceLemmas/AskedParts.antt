@@ -16,12 +16,12 @@ use Rattle.asm_code.specs.code.RuleMeaning.{Locations, meaning}
 use Rattle.asm_code.specs.code.RuleStories.{telling, tellings}
 use Rattle.asm_code.specs.code.RuleTree.{RuleCode, RuleCodes, rule_then}
 use Rattle.asm_code.proofs.RuleStories.{code_outcomes}
-use Rattle.asm_explore.specs.ChoicePoints.{asked, after_set}
-use Rattle.asm_explore.specs.code.AskedRules.{asks, after_turn_set, order_asks, turns_ask}
+use Rattle.asm_explore.specs.ChoicePoints.{Asking, asked, after_set}
+use Rattle.asm_explore.specs.code.AskedRules.{after_turn_set}
 
-pub target_asks : (p : Path) (l : Option Location) (v : Value) → asked (target_tells p l v) ≡ []
-target_asks p None v = refl
-target_asks p (Some l) v = refl
+pub target_asks : (p : Path) (l : Option Location) (v : Value) (ws bs : List Value) → asked (target_tells p l v ws bs) ≡ []
+target_asks p None v ws bs = refl
+target_asks p (Some l) v ws bs = refl
 
 module _ (s : Story) (rest : UpdateSet → Story) where
   goes_on : (U : UpdateSet) (b : Bool) → asked (cond b (Then s (rest U)) s) ≡ asked s ++ cond b (asked (rest U)) []
@@ -40,23 +40,31 @@ module _ (s : Story) (rest : UpdateSet → Story) where
   turn_asks (Exhausted q) = sym (append-nil (asked s))
   turn_asks (Gives U) = ends U (is_none U || not (is_consistent U))
 
-module _ (shape : Shape) (turns : ℕ) (chosen : Path → ℕ) (P : RuleCode) (rs : List Reading) (ls : Locations) where
-  pub same_result : (A : State) (p : Path) → (outcome_of (telling shape turns chosen P rs ls A p)).result ≡ (meaning shape turns chosen P rs ls A p).result
-  same_result A p = ap (λ (o : Outcome). o.result) (code_outcomes shape turns chosen P rs ls A p)
+-- of rules in order, and of turns, with the arguments gs
+module _ (shape : Shape) (turns : ℕ) (chosen : Path → ℕ) (P : RuleCode) (rs : List Reading) (ls : Locations) (gs : List Value) where
+  abbrev asks_with : State → Path → List Asking
+  asks_with A p = asked (telling shape turns chosen P rs ls gs A p)
+
+  abbrev order_with : RuleCodes → ℕ → State → Path → List Asking
+  order_with Ps k A p = asked (order_tells (tellings shape turns chosen Ps rs ls gs) k A nothing_bound p)
+
+  abbrev turns_with : (left t : ℕ) → State → Path → List Asking
+  turns_with left t A p = asked (turns_tell (λ A e p. telling shape turns chosen P rs ls gs A p) left t A nothing_bound p)
+
+  pub same_result : (A : State) (p : Path) → (outcome_of (telling shape turns chosen P rs ls gs A p)).result ≡ (meaning shape turns chosen P rs ls A p).result
+  same_result A p = ap (λ (o : Outcome). o.result) (code_outcomes shape turns chosen P rs ls gs A p)
 
   pub order_first : (Ps : RuleCodes) (k : ℕ) (A : State) (p : Path)
-      → order_asks shape turns chosen (rule_then P Ps) rs ls k A p
-      ≡ asks shape turns chosen P rs ls A (at p k) ++ after_set (meaning shape turns chosen P rs ls A (at p k)).result (λ U. order_asks shape turns chosen Ps rs ls (suc k) (fire A U) p)
+      → order_with (rule_then P Ps) k A p ≡ asks_with A (at p k) ++ after_set (meaning shape turns chosen P rs ls A (at p k)).result (λ U. order_with Ps (suc k) (fire A U) p)
   unfolding telling
   order_first Ps k A p =
-      let s : Story = telling shape turns chosen P rs ls A (at p k) in
-      part_asks s (λ U. order_tells (tellings shape turns chosen Ps rs ls) (suc k) (fire A U) nothing_bound p) (outcome_of s).result
-      ∙ ap (λ r. asked s ++ after_set r (λ U. order_asks shape turns chosen Ps rs ls (suc k) (fire A U) p)) (same_result A (at p k))
+      let s : Story = telling shape turns chosen P rs ls gs A (at p k) in
+      part_asks s (λ U. order_tells (tellings shape turns chosen Ps rs ls gs) (suc k) (fire A U) nothing_bound p) (outcome_of s).result
+      ∙ ap (λ r. asked s ++ after_set r (λ U. order_with Ps (suc k) (fire A U) p)) (same_result A (at p k))
 
   pub turns_first : (left t : ℕ) (A : State) (p : Path)
-      → turns_ask shape turns chosen P rs ls (suc left) t A p
-      ≡ asks shape turns chosen P rs ls A (at p t) ++ after_turn_set (meaning shape turns chosen P rs ls A (at p t)).result (λ U. turns_ask shape turns chosen P rs ls left (suc t) (fire A U) p)
+      → turns_with (suc left) t A p ≡ asks_with A (at p t) ++ after_turn_set (meaning shape turns chosen P rs ls A (at p t)).result (λ U. turns_with left (suc t) (fire A U) p)
   turns_first left t A p =
-      let s : Story = telling shape turns chosen P rs ls A (at p t) in
-      turn_asks s (λ U. turns_tell (λ A e p. telling shape turns chosen P rs ls A p) left (suc t) (fire A U) nothing_bound p) (outcome_of s).result
-      ∙ ap (λ r. asked s ++ after_turn_set r (λ U. turns_ask shape turns chosen P rs ls left (suc t) (fire A U) p)) (same_result A (at p t))
+      let s : Story = telling shape turns chosen P rs ls gs A (at p t) in
+      turn_asks s (λ U. turns_tell (λ A e p. telling shape turns chosen P rs ls gs A p) left (suc t) (fire A U) nothing_bound p) (outcome_of s).result
+      ∙ ap (λ r. asked s ++ after_turn_set r (λ U. turns_with left (suc t) (fire A U) p)) (same_result A (at p t))

@@ -16,9 +16,10 @@ use Rattle.asm_meaning.specs.Value.{Reading, is_true}
 use Rattle.asm_meaning.specs.Yields.{Path, at}
 use Rattle.asm_meaning.specs.declared.part.Part.TheVariants as part
 use Rattle.asm_meaning.proofs.Intervals.{interval_laws-all as between_all}
+use Rattle.asm_code.specs.code.BoundValues.{optional_arguments}
 use Rattle.asm_code.specs.code.CodeTree.{Code}
 use Rattle.asm_code.specs.code.Readings.{always, reading, universe_at}
-use Rattle.asm_code.specs.code.RuleMeaning.{Locations, passes, passing, rule_size, rule_sizes}
+use Rattle.asm_code.specs.code.RuleMeaning.{Locations, named_readings, optional_target_location, passes, passing, result_locations, result_readings, rule_size, rule_sizes}
 use Rattle.asm_code.specs.code.RuleTree.{RuleCode, Skip, Assign, Par, Seq, If, Let, Forall, Choose, Iterate, Call, RuleCodes, no_rules, rule_then}
 use Rattle.asm_eval.specs.code.OpenedPieces.{is_closed}
 use Rattle.asm_eval.specs.code.Opening.{Work, all_of, one_work, choice_works, part_works, part_of, body_works, counted_works, spans, span_works, rule_works}
@@ -29,8 +30,9 @@ use Rattle.asm_code.specs.code.RuleStories.{telling, tellings}
 use Rattle.asm_explore.specs.ChoicePoints.{Asking, asked}
 use Rattle.asm_explore.specs.code.AskedRules.{asks}
 use Rattle.asm_explore.specs.code.AskedPieces.{own_asks, own_choice}
-use Rattle.asm_explore.specs.code.ListElements.{Each}
+use Rattle.asm_explore.specs.ListElements.{Each}
 use Rattle.asm_explore.proofs.Elements.{each_weaker}
+use Rattle.asm_explore.proofs.ChoiceLemmas.AskedGiven.{asked_given}
 
 abbrev pub works_of : Option (List Work × ℕ) → List Work
 works_of (Some (works, n)) = works
@@ -56,13 +58,13 @@ module _ (shape : Shape) (turns : ℕ) (chosen : Path → ℕ) (A : State) where
     one_asked P k = sym (append-nil (asks_here P (at p k)))
 
     abbrev tells_here : RuleCode → Path → Story
-    tells_here P q = telling shape turns chosen P rs ls A q
+    tells_here P q = telling shape turns chosen P rs ls [] A q
 
     either_asked : (b : Bool) (P Q : RuleCode) → asked (cond b (tells_here P (at p 0)) (tells_here Q (at p 1))) ≡ all_ask (works_of (cond b (one_work P rs ls p 0) (one_work Q rs ls p 1)))
     either_asked true P Q = one_asked P 0
     either_asked false P Q = one_asked Q 1
 
-    parts_asked : (Ps : RuleCodes) (k : ℕ) → asked (parts_tell (tellings shape turns chosen Ps rs ls) k A nothing_bound p) ≡ all_ask (part_works k Ps rs ls p)
+    parts_asked : (Ps : RuleCodes) (k : ℕ) → asked (parts_tell (tellings shape turns chosen Ps rs ls []) k A nothing_bound p) ≡ all_ask (part_works k Ps rs ls p)
     unfolding telling
     parts_asked no_rules k = refl
     parts_asked (rule_then P Ps) k =
@@ -70,7 +72,7 @@ module _ (shape : Shape) (turns : ℕ) (chosen : Path → ℕ) (A : State) where
 
     module _ (c : Option Code) (P : RuleCode) where
       abbrev body_tells : Value → ℕ → Story
-      body_tells v k = telling shape turns chosen P (always v ∷ rs) (None ∷ ls) A (at p k)
+      body_tells v k = telling shape turns chosen P (always v ∷ rs) (None ∷ ls) [] A (at p k)
 
       abbrev passing_now : Value → Bool
       passing_now v = passes shape c (always v ∷ rs) A
@@ -97,7 +99,7 @@ module _ (shape : Shape) (turns : ℕ) (chosen : Path → ℕ) (A : State) where
           ∙ ap (λ b. all_ask (works_of (cond b (counted_works (body_works shape A c P rs ls p 0 (between 0 to vs))) (Some (map (part_of (Forall u c P) rs ls p) (spans cut (to - 0) 0 to), 0))))) (sym (short to cut few))
 
     choice_asked : (n : ℕ) (vs : List Value) (P Q : RuleCode)
-        → asked (one_tells p n vs (λ v. telling shape turns chosen P (always v ∷ rs) (None ∷ ls) A (at p 0)) (tells_here Q (at p 1)))
+        → asked (one_tells p n vs (λ v. telling shape turns chosen P (always v ∷ rs) (None ∷ ls) [] A (at p 0)) (tells_here Q (at p 1)))
         ≡ own_choice p n vs ++ all_ask (works_of (choice_works (taken n vs) P Q rs ls p))
     choice_asked n [] P Q = one_asked Q 1
     choice_asked n (v ∷ vs) P Q =
@@ -117,7 +119,9 @@ module _ (shape : Shape) (turns : ℕ) (chosen : Path → ℕ) (A : State) where
     opened_asks cut (Let t P) opens few = sym (append-nil _)
     opened_asks cut (Forall u c P) opens few = span_asked c P cut u few
     opened_asks cut (Choose u c P Q) opens few = choice_asked (chosen p) (passing shape u c rs A) P Q
-    opened_asks cut (Call P to ts) opens few = sym (append-nil _)
+    opened_asks cut (Call P to ts) opens few =
+        let l = optional_target_location shape to rs ls A in
+        asked_given shape turns chosen P (result_readings l ++ named_readings shape ts rs) (result_locations l) (optional_arguments shape to rs [] A) [] A (at p 0) ∙ sym (append-nil _)
 
 -- a rule that is closed asks nothing itself
 pub closed_own : (shape : Shape) (chosen : Path → ℕ) (R : RuleCode) (rs : List Reading) (A : State) (p : Path) → is_closed R ≡ true → own_asks shape chosen R rs A p ≡ []

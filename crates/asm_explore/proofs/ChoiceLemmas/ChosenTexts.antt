@@ -4,7 +4,7 @@
 --     too_long         why there is no text
 use Rattle.std.proofs.Common.{◌≡◌, ℕ, List, inl, inr, sym, ap}
 use Rattle.asm_syntax.specs.declared.input_error.InputError.TheVariants.{Named}
-use Rattle.asm_reader.specs.code.ExactLines.{exactly}
+use Rattle.asm_reader.specs.ExactLines.{exactly}
 use Rattle.asm_reader.specs.ScriptLines.{Line, Script}
 use Rattle.asm_reader.specs.ScriptText.{IsScript}
 use Rattle.asm_meaning.specs.Run.{Specification}
@@ -13,8 +13,8 @@ use Rattle.asm_explore.specs.declared.scripts.writing_error.WritingError.{Writin
 use Rattle.asm_explore.specs.declared.scripts.writing_error.WritingError.TheVariants.{LongNumber, TooLong}
 use Rattle.asm_explore.specs.ChosenLines.{AreTooLong, IsChosenText, chosen_lines}
 use Rattle.asm_explore.specs.RunChoices.{chosen_from, lines_forward, of_run}
-use Rattle.asm_explore.specs.code.ScriptTo.{needed}
-use Rattle.asm_explore.specs.code.WrittenScripts.{IsTextOf, IsTextRefusal, lines_text, numbers_in}
+use Rattle.asm_explore.specs.ChoiceLines.{needed}
+use Rattle.asm_explore.specs.WrittenScripts.{IsTextOf, IsTextRefusal, lines_text, numbers_in}
 use Rattle.asm_explore.proofs.ChoiceLemmas.SameRun.{needed_again}
 
 pub too_long : (lines : List Line) (e : WritingError) → IsTextRefusal (numbers_in lines) (lines_text lines) (Named e) → AreTooLong lines

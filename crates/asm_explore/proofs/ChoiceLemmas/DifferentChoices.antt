@@ -7,7 +7,7 @@
 use Rattle.std.proofs.Common.{◌≡◌, ◌+◌, ◌≤◌, ℕ, List, [], ◌∷◌, ◌++◌, map, inl, refl, sym, subst, arith, append-nil}
 use Rattle.asm_meaning.specs.Yields.{Path, at}
 use Rattle.asm_explore.specs.declared.outcomes.listed_outcome.Choice.{Choice}
-use Rattle.asm_explore.specs.code.ListElements.{Each}
+use Rattle.asm_explore.specs.ListElements.{Each}
 use Rattle.asm_explore.specs.code.ChoicePaths.{LiesAt, IsPlacedFrom}
 use Rattle.asm_explore.specs.code.OverLimit.{Differ, AreDifferent, DifferFrom, AreDifferentFrom, TakesBefore}
 use Rattle.asm_explore.specs.code.ChoiceLists.{AreSomeOf, behind, all_joined, with_choice}

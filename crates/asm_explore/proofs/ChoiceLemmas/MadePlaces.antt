@@ -1,6 +1,6 @@
 -- Free. A rule makes each of its choices at a path of its own, at or below that of the rule.
 --     told_placed        those of its story
-use Rattle.std.proofs.Common.{◌++◌, ◌%◌, ◌+◌, ◌≡◌, ℕ, zero, suc, Bool, true, false, cond, not, ◌||◌, List, [], ◌∷◌, length, Option, Some, refl, sym, ap, subst, add-one, append-nil}
+use Rattle.std.proofs.Common.{◌++◌, ◌%◌, ◌+◌, ℕ, zero, suc, Bool, true, false, cond, not, ◌||◌, List, [], ◌∷◌, length, Option, Some, refl, sym, ap, subst, add-one, append-nil}
 use Rattle.std.specs.Prelude.{slice_index_or}
 use Rattle.std.proofs.lemmas.List.{map-append}
 use Rattle.asm_state.specs.declared.value.Value.{Value}
@@ -9,13 +9,13 @@ use Rattle.asm_state.specs.Updates.{UpdateSet, is_consistent, is_none, fire}
 use Rattle.asm_syntax.specs.Tree.{Name, Terms, Rule, Skip, Assign, Call, Par, Seq, If, Let, Forall, Choose, Iterate, Rules, no_rules, rule_then}
 use Rattle.asm_reader.specs.ScriptLines.{Script, pick}
 use Rattle.asm_meaning.specs.Program.{Program, Declared, NamedRule, declared, Environment, with_value, bind_terms}
-use Rattle.asm_meaning.specs.Targets.{answering, location}
-use Rattle.asm_meaning.specs.Value.{value, holds, candidates, universe, nesting}
+use Rattle.asm_meaning.specs.Targets.{answering, arguments, location}
+use Rattle.asm_meaning.specs.Value.{value, bound_values, holds, candidates, universe, nesting}
 use Rattle.asm_meaning.specs.Yields.{Path, Result, Gives, Exhausted, at}
-use Rattle.asm_meaning.specs.Story.{Story, Silent, Beside, Instance, Then, Telling, outcome_of, part_then, turn_then, parts_tell, order_tells, each_tells, one_tells, turns_tell, called_tells, telling, tellings, tells_within, tells}
+use Rattle.asm_meaning.specs.Story.{Story, Beside, Instance, Then, Telling, outcome_of, part_then, turn_then, parts_tell, order_tells, each_tells, one_tells, turns_tell, called_tells, telling, tellings, tells_within, tells}
 use Rattle.asm_explore.specs.declared.outcomes.listed_outcome.Choice.{Choice}
 use Rattle.asm_explore.specs.ChoicePoints.{Asking, asked, choices_of}
-use Rattle.asm_explore.specs.code.ListElements.{Each}
+use Rattle.asm_explore.specs.ListElements.{Each}
 use Rattle.asm_explore.specs.code.ChoicePaths.{LieBelow, IsPlacedFrom}
 use Rattle.asm_explore.proofs.ChoiceLemmas.AskedParts.{target_asks}
 use Rattle.asm_explore.proofs.ChoiceLemmas.ChoicePaths.{placed_none, placed_part, placed_in, placed_first, from_part, from_later, from_none}
@@ -107,7 +107,7 @@ module _ (program : Program) (turns : ℕ) (chosen : Path → ℕ) (body : Rule 
 
     rule_placed : (R : Rule) → Places (telling program turns chosen body R)
     rule_placed Skip A e p = placed_none p [] refl
-    rule_placed (Assign f ts t) A e p = placed_none p _ (ap choices_of (target_asks p (location program A e f ts) (value program A e t)))
+    rule_placed (Assign f ts t) A e p = placed_none p _ (ap choices_of (target_asks p (location program A e f ts) (value program A e t) (arguments program A e f ts) (bound_values program A e)))
     rule_placed (Call to f ts) A e p = call_placed (declared program f) to ts A e p
     rule_placed (Par Ps) A e p = from_first p (parts_tell (tellings program turns chosen body Ps) 0 A e p) (parts_placed p (tellings program turns chosen body Ps) (all_placed Ps) 0 A e)
     rule_placed (Seq Ps) A e p = from_first p (order_tells (tellings program turns chosen body Ps) 0 A e p) (order_placed p (tellings program turns chosen body Ps) (all_placed Ps) 0 A e)

@@ -20,10 +20,11 @@ use Rattle.asm_meaning.specs.Story.{Story, Beside, Instance, parts_tell, each_te
 use Rattle.asm_meaning.specs.Value.{Reading, is_true}
 use Rattle.asm_meaning.specs.Yields.{Path, Result, Gives, Exhausted, at}
 use Rattle.asm_meaning.proofs.Intervals.{interval_laws-all as between_all}
+use Rattle.asm_code.specs.code.BoundValues.{optional_arguments}
 use Rattle.asm_code.specs.code.CodeViews.{code_of, codes_of}
 use Rattle.asm_code.specs.code.CodeTree as codes
 use Rattle.asm_code.specs.code.Readings.{always, reading, universe_at}
-use Rattle.asm_code.specs.code.RuleMeaning.{Locations, meaning, passes, passing, optional_target_location, result_readings, result_locations}
+use Rattle.asm_code.specs.code.RuleMeaning.{Locations, meaning, named_readings, passes, passing, optional_target_location, result_readings, result_locations}
 use Rattle.asm_code.specs.code.RuleStories.{telling, tellings}
 use Rattle.asm_code.specs.code.RuleTree as tree
 use Rattle.asm_code.specs.code.RuleViews.{target_code_of, rule_of, rules_of}
@@ -37,6 +38,7 @@ use Rattle.asm_explore.specs.ChoicePoints.{Asking, after_set, asked, choices_of}
 use Rattle.asm_explore.specs.code.AskedRules.{after_turn_set, asks, order_asks, turns_ask}
 use Rattle.asm_explore.specs.code.ChoicesMade.{made, parts_made, order_made, turns_made}
 use Rattle.asm_explore.specs.code.ChoicesMadeSoFar.{made_after}
+use Rattle.asm_explore.proofs.ChoiceLemmas.AskedGiven.{asked_given}
 use Rattle.asm_explore.proofs.ChoiceLemmas.AskedParts.{order_first, turns_first}
 use Rattle.asm_explore.proofs.CodeRules.{contents_are, named_are}
 
@@ -121,13 +123,13 @@ module _ (shape : Shape) (turns : ℕ) (chosen : Path → ℕ) (rs : List Readin
   makes P = made shape turns chosen P rs ls A p
 
   abbrev tells_at : ℕ → RuleCode → Story
-  tells_at k P = telling shape turns chosen (rule_of P) rs ls A (at p k)
+  tells_at k P = telling shape turns chosen (rule_of P) rs ls [] A (at p k)
 
   abbrev makes_at : ℕ → RuleCode → List Choice
   makes_at k P = made shape turns chosen (rule_of P) rs ls A (at p k)
 
   abbrev tells_with : Value → ℕ → tree.RuleCode → Story
-  tells_with v k R = telling shape turns chosen R (always v ∷ rs) (None ∷ ls) A (at p k)
+  tells_with v k R = telling shape turns chosen R (always v ∷ rs) (None ∷ ls) [] A (at p k)
 
   abbrev tree_with : Value → ℕ → tree.RuleCode → List Choice
   tree_with v k R = made shape turns chosen R (always v ∷ rs) (None ∷ ls) A (at p k)
@@ -163,8 +165,11 @@ module _ (shape : Shape) (turns : ℕ) (chosen : Path → ℕ) (rs : List Readin
       → made shape turns chosen (rule_of S) (result_contents shape n ++ by_name shape rs us) (result_locations (location_numbered shape n)) A (at p 0) ≡ makes (tree.Call (rule_of S) (option_map target_code_of to) (codes_of (map code_of us)))
   unfolding telling
   call_makes S to us n there =
+      let target = optional_target_location shape (option_map target_code_of to) rs ls A in
       (λ i. made shape turns chosen (rule_of S) (contents_are shape n i ++ by_name shape rs us) (result_locations (location_numbered shape n)) A (at p 0))
       ∙ (λ i. made shape turns chosen (rule_of S) (result_readings (there i) ++ sym (named_are shape rs us) i) (result_locations (there i)) A (at p 0))
+      ∙ ap choices_of (asked_given shape turns chosen (rule_of S) (result_readings target ++ named_readings shape (codes_of (map code_of us)) rs) (result_locations target) []
+      (optional_arguments shape (option_map target_code_of to) rs [] A) A (at p 0))
 
   -- ---- parts beside each other
 
@@ -177,7 +182,7 @@ module _ (shape : Shape) (turns : ℕ) (chosen : Path → ℕ) (rs : List Readin
 
   parts_first : (P : RuleCode) (Ps : List RuleCode) (k : ℕ) → makes_at k P ++ parts_from (suc k) Ps ≡ parts_from k (P ∷ Ps)
   unfolding telling tellings
-  parts_first P Ps k = sym (both_chosen (asked (tells_at k P)) (asked (parts_tell (tellings shape turns chosen (rules_of (map rule_of Ps)) rs ls) (suc k) A nothing_bound p)))
+  parts_first P Ps k = sym (both_chosen (asked (tells_at k P)) (asked (parts_tell (tellings shape turns chosen (rules_of (map rule_of Ps)) rs ls []) (suc k) A nothing_bound p)))
 
   pub parts_next : (Ps : List RuleCode) (i : ℕ) (P : RuleCode) → i < length Ps → P ≡ get_or Ps i P
       → makes_at i P ++ parts_from (i + 1) (drop (i + 1) Ps) ≡ parts_from i (drop i Ps)
@@ -233,7 +238,7 @@ module _ (shape : Shape) (turns : ℕ) (chosen : Path → ℕ) (rs : List Readin
   order_chosen R Rs k B =
       let own = asks shape turns chosen R rs ls B (at p k) in
       let rest = λ (U : UpdateSet). order_asks shape turns chosen Rs rs ls (suc k) (fire B U) p in
-      ap choices_of (order_first shape turns chosen R rs ls Rs k B p) ∙ both_chosen own (after_set (numbered k R B) rest)
+      ap choices_of (order_first shape turns chosen R rs ls [] Rs k B p) ∙ both_chosen own (after_set (numbered k R B) rest)
       ∙ ap (λ cs. numbered_makes k R B ++ cs) (part_chosen (numbered k R B) rest)
 
   pub order_next : (Ps : List RuleCode) (i : ℕ) (P : RuleCode) (B : State) → i < length Ps → P ≡ get_or Ps i P
@@ -258,6 +263,6 @@ module _ (shape : Shape) (turns : ℕ) (chosen : Path → ℕ) (rs : List Readin
   turns_next R left t B =
       let own = asks shape turns chosen R rs ls B (at p t) in
       let rest = λ (U : UpdateSet). turns_ask shape turns chosen R rs ls left (suc t) (fire B U) p in
-      ap choices_of (turns_first shape turns chosen R rs ls left t B p) ∙ both_chosen own (after_turn_set (numbered t R B) rest)
+      ap choices_of (turns_first shape turns chosen R rs ls [] left t B p) ∙ both_chosen own (after_turn_set (numbered t R B) rest)
       ∙ ap (λ cs. numbered_makes t R B ++ cs) (turn_chosen (numbered t R B) rest)
       ∙ ap (λ k. numbered_makes t R B ++ after_turn_set (numbered t R B) (λ U. turns_from R left k (fire B U))) (sym (add-one t))

@@ -1,6 +1,6 @@
 -- Free. A rule in which nothing is chosen does the same whoever says what is taken.
 --     same_for_all      what it does
-use Rattle.std.proofs.Common.{◌≡◌, ◌++◌, ℕ, cond, List, [], ◌∷◌, None, refl}
+use Rattle.std.proofs.Common.{◌≡◌, ◌++◌, ℕ, cond, List, ◌∷◌, None, refl}
 use Rattle.asm_state.specs.Location.{State}
 use Rattle.asm_state.specs.Signature.{Shape}
 use Rattle.asm_meaning.specs.Does.{parts, in_order, each, turns_of}

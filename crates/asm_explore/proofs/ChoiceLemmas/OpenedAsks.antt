@@ -30,7 +30,7 @@ use Rattle.asm_eval.specs.declared.open.Opened.TheVariants as opening
 use Rattle.asm_eval.specs.declared.piece.Piece.{Piece}
 use Rattle.asm_eval.specs.declared.evaluation.Evaluation.{Evaluation}
 use Rattle.asm_explore.specs.code.AskedPieces.{HasCount, own_at, piece_asks}
-use Rattle.asm_explore.specs.code.ListElements.{Each}
+use Rattle.asm_explore.specs.ListElements.{Each}
 use Rattle.asm_explore.proofs.ChoiceLemmas.AskedWorks.{IsBelow, all_ask, opened_asks, work_asks, works_fall, works_of}
 use Rattle.asm_explore.proofs.Elements.{each_at}
 

@@ -21,8 +21,8 @@ use Rattle.asm_explore.specs.code.OutcomeLists.{Situation}
 use Rattle.asm_explore.specs.code.StepLeads.{LeadsTo}
 use Rattle.asm_explore.specs.code.ReachedStates.{steps_from}
 use Rattle.asm_explore.specs.RunChoices.{asked_said, asked_in, choices_made, choices_in, from_step, lines_from, lines_forward}
-use Rattle.asm_explore.specs.code.ScriptTo.{lines_for}
-use Rattle.asm_explore.specs.code.WrittenScripts.{AreSteps}
+use Rattle.asm_explore.specs.ChoiceLines.{lines_for}
+use Rattle.asm_explore.specs.WrittenScripts.{AreSteps}
 use Rattle.asm_explore.proofs.ChoiceLemmas.AskedOrder.{after_good, after_faulty}
 use Rattle.asm_explore.proofs.Elements.{each_append}
 use Rattle.asm_explore.proofs.ScriptLemmas.ScriptToState.{for_counted}

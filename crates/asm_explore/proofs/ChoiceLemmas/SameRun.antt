@@ -8,7 +8,7 @@
 use Rattle.std.proofs.Common.{◌++◌, ◌≡◌, ◌∙◌, ℕ, zero, suc, Bool, true, false, cond, List, [], ◌∷◌, length, map, refl, sym, ap, subst, append_assoc, append-nil}
 use Rattle.asm_state.specs.Location.{State}
 use Rattle.asm_state.specs.Updates.{UpdateSet, is_consistent, fire}
-use Rattle.asm_reader.specs.code.ExactLines.{exactly}
+use Rattle.asm_reader.specs.ExactLines.{exactly}
 use Rattle.asm_reader.specs.ScriptLines.{Script}
 use Rattle.asm_meaning.specs.Does.{Outcome, does}
 use Rattle.asm_meaning.specs.Program.{nothing_bound}
@@ -22,7 +22,7 @@ use Rattle.asm_explore.specs.code.OutcomeLists.{Situation, Each, AreTaken}
 use Rattle.asm_explore.specs.code.ChoicePaths.{HaveOwnPaths}
 use Rattle.asm_explore.specs.code.ReachedStates.{MakesAll, steps_from}
 use Rattle.asm_explore.specs.RunChoices.{asked_from, chosen_from, of_run, from_step, lines_from, lines_forward, MakesTheRun}
-use Rattle.asm_explore.specs.code.ScriptTo.{lines_for, lines_of, needed}
+use Rattle.asm_explore.specs.ChoiceLines.{lines_for, lines_of, needed}
 use Rattle.asm_explore.proofs.ScriptLemmas.ScriptToState.{lines_apart, lines_make, needed_make}
 use Rattle.asm_explore.proofs.ChoiceLemmas.MadePlaces.{told_placed}
 use Rattle.asm_explore.proofs.ChoiceLemmas.TakenStories.{told_again}

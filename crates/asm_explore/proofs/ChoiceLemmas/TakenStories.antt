@@ -2,7 +2,7 @@
 -- story.
 --     told_again       of a rule
 --     making_laws      what is said of the choices of a rule
-use Rattle.std.proofs.Common.{◌++◌, ◌≡◌, ◌%◌, ℕ, List, ◌∷◌, length, ap, subst}
+use Rattle.std.proofs.Common.{◌++◌, ◌≡◌, ◌%◌, ℕ, List, length, ap, subst}
 use Rattle.std.proofs.lemmas.List.{map-append}
 use Rattle.asm_state.specs.Location.{State}
 use Rattle.asm_syntax.specs.Tree.{Rule}
@@ -29,7 +29,7 @@ module _ (chosen : Path → ℕ) where
 
   picks_as : (s : Story) → Takes chosen (choices_of (asked s)) → PicksAs chosen s
   picks_as Silent h = tt
-  picks_as (Assigns p l v) h = tt
+  picks_as (Assigns p l v ws bs) h = tt
   picks_as (Chooses p k vs s) h = (ap (λ n. n % length vs) h.0, picks_as s h.1)
   picks_as (Instance s) h = picks_as s h
   picks_as (Beside s t) h = let both = both_taken (asked s) (asked t) h in (picks_as s both.0, picks_as t both.1)

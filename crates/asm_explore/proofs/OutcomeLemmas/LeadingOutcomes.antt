@@ -5,26 +5,21 @@
 --     comes, is_first     a node comes from another, or is the first one
 --     leads_back          the choices of one more step after those of others
 --     leads_apart         those of each step are at paths of their own
-use Rattle.std.proofs.Common.{◌≡◌, ℕ, ◌<◌, Bool, List, [], ◌∷◌, ◌++◌, ◌⊎◌, inl, inr, length, map, ap, sym, subst, ◌∙◌, arith, append_assoc, Vec, Global}
+use Rattle.std.proofs.Common.{◌≡◌, ℕ, ◌<◌, Bool, List, [], ◌∷◌, ◌++◌, inl, inr, map, ap, sym, subst, ◌∙◌, arith, append_assoc, Vec, Global}
 use Rattle.std.specs.Prelude.{slice_get, Some}
 use Rattle.std.proofs.lemmas.List.{map-append}
 use Rattle.asm_state.specs.Location.{State}
-use Rattle.asm_syntax.specs.declared.input_error.InputError.TheVariants.{Named}
-use Rattle.asm_reader.specs.ScriptText.{max_script}
 use Rattle.asm_state.specs.Signature.{Shape}
 use Rattle.asm_state.specs.Updates.{UpdateSet, IsConsistent}
 use Rattle.asm_meaning.specs.Yields.{Result, Gives}
 use Rattle.asm_meaning.specs.Run.{Specification}
 use Rattle.asm_explore.specs.declared.outcomes.listed_outcome.Choice.{Choice}
 use Rattle.asm_explore.specs.declared.outcomes.listed_outcome.ListedOutcome.{ListedOutcome}
-use Rattle.asm_explore.specs.declared.scripts.writing_error.WritingError.{WritingError}
-use Rattle.asm_explore.specs.declared.scripts.writing_error.WritingError.TheVariants.{TooLong, LongNumber}
 use Rattle.asm_explore.specs.code.PackedNodes.{Node}
 use Rattle.asm_explore.specs.code.OutcomeLists.{Each, Shows, Shown}
 use Rattle.asm_explore.specs.code.ChoicePaths.{HaveOwnPaths}
 use Rattle.asm_explore.specs.code.ReachedStates.{ComesFrom, IsLinked, LeadTo, state_at}
 use Rattle.asm_explore.specs.Search.{LeadsOn}
-use Rattle.asm_explore.specs.code.WrittenScripts.{AnyIsLong, IsTextRefusal}
 use Rattle.asm_explore.proofs.StateLemmas.MoreNodes.{both_of, each_got}
 
 pub gives_same : (U V : UpdateSet) → Gives U ≡ Gives V → U ≡ V

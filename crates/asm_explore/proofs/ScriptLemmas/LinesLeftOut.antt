@@ -11,13 +11,13 @@ use Rattle.std.proofs.lemmas.Bool.{both_ways, eqb-true}
 use Rattle.std.proofs.lemmas.Bool.Decides.{nat_tests}
 use Rattle.std.proofs.lemmas.Map.Keys.{IsDistinct-head, IsDistinct-tail}
 use Rattle.std.proofs.lemmas.Slice.Eq.{bytes_eq-Decides}
-use Rattle.asm_reader.specs.code.ExactLines.{exactly}
+use Rattle.asm_reader.specs.ExactLines.{exactly}
 use Rattle.asm_reader.specs.ScriptLines.{Line, exact_choice, is_line_of, pick}
 use Rattle.asm_meaning.specs.Scripts.{IsUnrepeated, have_one_key}
 use Rattle.asm_explore.specs.declared.scripts.script_line.Zeros.{Zeros}
 use Rattle.asm_explore.specs.declared.scripts.script_line.Zeros.TheVariants.{Written, LeftOut}
 use Rattle.asm_explore.specs.code.OutcomeLists.{Each}
-use Rattle.asm_explore.specs.code.WrittenScripts.{AreSteps, is_written, written}
+use Rattle.asm_explore.specs.WrittenScripts.{AreSteps, is_written, written}
 use Rattle.asm_explore.proofs.OutcomeLemmas.ListLemmas.{each_weaker}
 
 -- ---- lines that are apart

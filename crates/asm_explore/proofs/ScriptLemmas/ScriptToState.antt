@@ -15,16 +15,16 @@ use Rattle.std.proofs.lemmas.Bool.Decides.{Decides-eqb}
 use Rattle.std.proofs.lemmas.Bool.{false_from_ne_true}
 use Rattle.std.proofs.lemmas.Map.Keys.{IsDistinct-cons, IsDistinct-head, IsDistinct-tail}
 use Rattle.std.proofs.lemmas.Slice.Eq.{slice_eq-Decides}
-use Rattle.asm_reader.specs.code.ExactLines.{exactly}
+use Rattle.asm_reader.specs.ExactLines.{exactly}
 use Rattle.asm_reader.specs.ScriptLines.{Line, Script, exact_choice, is_line_of, pick}
 use Rattle.asm_meaning.specs.Scripts.{have_one_key, IsUnrepeated}
 use Rattle.asm_meaning.specs.Yields.{Path}
 use Rattle.asm_explore.specs.declared.outcomes.listed_outcome.Choice.{Choice}
-use Rattle.asm_explore.specs.code.ListElements.{Each}
+use Rattle.asm_explore.specs.ListElements.{Each}
 use Rattle.asm_explore.specs.code.OutcomeLists.{AreTaken}
 use Rattle.asm_explore.specs.code.ChoicePaths.{HaveOwnPaths}
 use Rattle.asm_explore.specs.code.ReachedStates.{MakesAll}
-use Rattle.asm_explore.specs.code.ScriptTo.{lines_for, lines_of, needed}
+use Rattle.asm_explore.specs.ChoiceLines.{lines_for, lines_of, needed}
 use Rattle.asm_explore.proofs.Elements.{each_append, each_first, each_last, each_weaker}
 
 -- ---- keys

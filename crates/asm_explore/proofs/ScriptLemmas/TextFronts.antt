@@ -13,7 +13,7 @@ use Rattle.asm_explore.specs.declared.scripts.writing_error.WritingError.TheVari
 use Rattle.asm_explore.specs.declared.scripts.script_line.ScriptLine.{ScriptLine}
 use Rattle.asm_explore.specs.declared.scripts.script_line.Zeros.{Zeros}
 use Rattle.asm_reader.specs.ScriptLines.{Line}
-use Rattle.asm_explore.specs.code.WrittenScripts.{line_said, lines_said, AnyIsLong, IsTextRefusal, dotted, is_written, written}
+use Rattle.asm_explore.specs.WrittenScripts.{line_said, lines_said, AnyIsLong, IsTextRefusal, dotted, is_written, written}
 
 pub refusal_in : (part whole bytes text : List ℕ) (e : InputError WritingError) → (AnyIsLong part → AnyIsLong whole) → length bytes ≤ length text
     → IsTextRefusal part bytes e → IsTextRefusal whole text e

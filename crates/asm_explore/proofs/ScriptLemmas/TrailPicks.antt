@@ -2,12 +2,12 @@
 --     or_nothing     what stands for no step in particular is nothing
 --     at_none        in a step that isn't one of them nothing
 --     at_step        in one of them what its choices say
-use Rattle.std.proofs.Common.{◌≡◌, ◌∙◌, ℕ, zero, suc, ◌+◌, ◌-◌, ◌<◌, ◌≤◌, ◌&&◌, Bool, true, false, cond, nat_eq, List, [], ◌∷◌, ◌++◌, length, Option, Some, None, refl, sym, ap, arith, slice_get}
+use Rattle.std.proofs.Common.{◌≡◌, ◌∙◌, ℕ, zero, suc, ◌+◌, ◌<◌, ◌≤◌, ◌&&◌, Bool, true, false, cond, nat_eq, List, [], ◌∷◌, ◌++◌, length, Option, Some, None, refl, ap, arith, slice_get}
 use Rattle.std.specs.Cmp.Lexicographic.{pointwise}
 use Rattle.std.specs.Option.{option_or}
 use Rattle.asm_reader.specs.ScriptLines.{Line, exact_choice, is_line_of}
 use Rattle.asm_explore.specs.declared.outcomes.listed_outcome.Choice.{Choice}
-use Rattle.asm_explore.specs.code.ScriptTo.{lines_for, lines_of}
+use Rattle.asm_explore.specs.ChoiceLines.{lines_for, lines_of}
 
 other_step : (s step : ℕ) → ¬ (s ≡ step) → nat_eq s step ≡ false
 other_step s step other = grind (arith)

@@ -17,11 +17,11 @@ use Rattle.std.proofs.lemmas.List.Splits.{slice_split_at, slice_split_none}
 use Rattle.std.proofs.lemmas.List.Sums.{fold-append}
 use Rattle.std.proofs.lemmas.Slice.Eq.{bytes_eq-Decides}
 use Rattle.asm_syntax.specs.code.Fronts.{value_of}
-use Rattle.asm_reader.specs.code.ExactLines.{exactly}
+use Rattle.asm_reader.specs.ExactLines.{exactly}
 use Rattle.asm_reader.specs.ScriptLines.{Line, ForStep, is_line_of, line_then, script_of}
 use Rattle.asm_reader.specs.ScriptText.{AreFaultless, IsScript, is_bad, is_repeated, is_skipped, line_of, line_of_fields, line_with, lines_of, number_of, number_then, numbers_of, path_of, said, said_in, says_again, script_in, step_with, when_of}
 use Rattle.asm_explore.specs.code.OutcomeLists.{Each}
-use Rattle.asm_explore.specs.code.WrittenScripts.{AreShort, AreSteps, IsShort, IsTextOf, dotted, line_text, lines_text, numbers_in, numbers_of_line, path_text}
+use Rattle.asm_explore.specs.WrittenScripts.{AreShort, AreSteps, IsShort, IsTextOf, dotted, line_text, lines_text, numbers_in, numbers_of_line, path_text}
 use Rattle.asm_explore.proofs.ScriptLemmas.LinesLeftOut.{AreApart, IsApart}
 use Rattle.asm_explore.proofs.OutcomeLemmas.ListLemmas.{each_append, each_first, each_last, each_weaker}
 

@@ -18,7 +18,7 @@ use Rattle.asm_explore.specs.declared.outcomes.outcomes_error.RuleOverLimit.{Rul
 use Rattle.asm_explore.specs.declared.search_error.SearchError.{SearchError}
 use Rattle.asm_explore.specs.declared.search_result.BadStep.{BadStep}
 use Rattle.asm_explore.specs.code.AddedNodes.{CanAdd, CanExpand, AddsNodes, ExpandsNode}
-use Rattle.asm_explore.specs.code.ListElements.{Each}
+use Rattle.asm_explore.specs.ListElements.{Each}
 use Rattle.asm_explore.specs.code.PackedNodes.{Node}
 use Rattle.asm_explore.specs.code.ReachedStates.{AreBegun, Extends, IsFull, IsGood}
 use Rattle.asm_explore.specs.code.SearchEnds.{HaltsSo}

@@ -25,7 +25,7 @@ use Rattle.asm_explore.specs.declared.states.deadlocks.Deadlocks.{Deadlocks}
 use Rattle.asm_explore.specs.declared.states.deadlocks.Deadlocks.TheVariants as found
 use Rattle.asm_explore.specs.code.ChoicePaths.{HaveOwnPaths}
 use Rattle.asm_explore.specs.code.Deadlocks.{AreJudged, AreKnown, AreTold, HoldsBetween, IsThere, LivesInside, MayLiveInside, before, safe_of}
-use Rattle.asm_explore.specs.code.ListElements.{Each}
+use Rattle.asm_explore.specs.ListElements.{Each}
 use Rattle.asm_explore.specs.code.PackedNodes.{Node}
 use Rattle.asm_explore.specs.code.QuietStates.{IsRested}
 use Rattle.asm_explore.specs.code.ReachedStates.{AtNode, GoesWrong, GoesWrongSo, IsBad, IsLooked, IsSearched, state_at, steps_from}

@@ -14,7 +14,7 @@ use Rattle.asm_meaning.specs.Run.{Specification}
 use Rattle.asm_explore.specs.declared.states.deadlocks.Deadlocks.{Deadlocks}
 use Rattle.asm_explore.specs.declared.states.deadlocks.Deadlocks.TheVariants as found
 use Rattle.asm_explore.specs.code.Deadlocks.{before, safe_of}
-use Rattle.asm_explore.specs.code.ListElements.{Each}
+use Rattle.asm_explore.specs.ListElements.{Each}
 use Rattle.asm_explore.specs.code.LookedStates.{LooksThrough}
 use Rattle.asm_explore.specs.code.PackedNodes.{Node}
 use Rattle.asm_explore.specs.code.QuietStates.{AreJust, IsLookedAt, IsRested}

@@ -17,7 +17,7 @@ use Rattle.asm_state.specs.declared.value.Value.TheVariants.{Undef}
 use Rattle.asm_state.specs.Signature.{Shape, location_at, state_of}
 use Rattle.asm_state.proofs.StatesByNumbers.{state_laws}
 use Rattle.asm_explore.specs.code.IndexedNodes.{HaveOwnStates, IsNew}
-use Rattle.asm_explore.specs.code.ListElements.{Each}
+use Rattle.asm_explore.specs.ListElements.{Each}
 use Rattle.asm_explore.specs.code.PackedNodes.{Node}
 use Rattle.asm_explore.specs.code.ReachedStates.{state_at}
 use Rattle.asm_explore.specs.StateLists.{AreDifferent}

@@ -7,14 +7,14 @@ use Rattle.std.proofs.Common.{◌≡◌, ℕ, zero, suc, ◌≤◌, Bool, List, 
 use Rattle.std.specs.Prelude.{slice_get, Some}
 use Rattle.asm_state.specs.Location.{State}
 use Rattle.asm_state.specs.Signature.{Shape}
-use Rattle.asm_reader.specs.code.ExactLines.{exactly}
+use Rattle.asm_reader.specs.ExactLines.{exactly}
 use Rattle.asm_meaning.specs.Run.{Specification}
 use Rattle.asm_explore.specs.declared.outcomes.listed_outcome.Choice.{Choice}
 use Rattle.asm_explore.specs.ExplorationResults.{IsReachedBy}
 use Rattle.asm_explore.specs.code.PackedNodes.{Node}
 use Rattle.asm_explore.specs.code.OutcomeLists.{Each}
 use Rattle.asm_explore.specs.code.ReachedStates.{AreInside, IsLinked, IsOverfull, LeadTo, state_at}
-use Rattle.asm_explore.specs.code.ScriptTo.{lines_of}
+use Rattle.asm_explore.specs.ChoiceLines.{lines_of}
 use Rattle.asm_explore.proofs.StateLemmas.RunsAlongChoices.{trail_run}
 use Rattle.asm_explore.proofs.ScriptLemmas.ScriptToState.{lines_make}
 use Rattle.asm_explore.proofs.OutcomeLemmas.LeadingOutcomes.{comes, is_first, leads_apart}

@@ -2,7 +2,7 @@
 --     last_alike      two runs that are the same after some steps are in the same state after fewer
 --     wrong_alike     if of two runs that are the same the one goes wrong, the other does
 --     stays_alike     if the one stays within before the step that goes wrong, the other does
-use Rattle.std.proofs.Common.{◌≡◌, ◌∙◌, ℕ, zero, suc, ◌-◌, ◌<◌, ◌≤◌, Bool, true, false, cond, List, [], ◌∷◌, refl, sym, ap, subst, arith}
+use Rattle.std.proofs.Common.{◌≡◌, ◌∙◌, ℕ, zero, suc, ◌<◌, ◌≤◌, Bool, true, false, cond, List, [], ◌∷◌, refl, sym, ap, subst, arith}
 use Rattle.asm_state.specs.Location.{State}
 use Rattle.asm_state.specs.Updates.{UpdateSet, is_consistent, fire}
 use Rattle.asm_reader.specs.ScriptLines.{Script}

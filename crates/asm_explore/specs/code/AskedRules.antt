@@ -2,7 +2,8 @@
 --     after_turn_set r rest   what comes after a turn
 --     asks shape turns chosen P rs ls A p     what is asked in P in the state A and at the path p,
 --                                             when the positions stand for rs, and for the
---                                             locations ls, if they stand for any
+--                                             locations ls, if they stand for any; with which
+--                                             arguments makes no difference
 --     order_asks, turns_ask       the same of rules in order, from number k on, and of turns
 --     asks_in shape turns P A s   in a situation with no name bound, from the top on
 use Rattle.std.specs.Prelude.{ℕ, cond, not, ◌||◌, List, []}
@@ -25,13 +26,13 @@ after_turn_set (Gives U) rest = cond (is_none U || not (is_consistent U)) [] (re
 
 module _ (shape : Shape) (turns : ℕ) (chosen : Path → ℕ) where
   abbrev pub asks : RuleCode → List Reading → Locations → State → Path → List Asking
-  asks P rs ls A p = asked (telling shape turns chosen P rs ls A p)
+  asks P rs ls A p = asked (telling shape turns chosen P rs ls [] A p)
 
   abbrev pub order_asks : RuleCodes → List Reading → Locations → ℕ → State → Path → List Asking
-  order_asks Ps rs ls k A p = asked (order_tells (tellings shape turns chosen Ps rs ls) k A nothing_bound p)
+  order_asks Ps rs ls k A p = asked (order_tells (tellings shape turns chosen Ps rs ls []) k A nothing_bound p)
 
   abbrev pub turns_ask : RuleCode → List Reading → Locations → (left t : ℕ) → State → Path → List Asking
-  turns_ask P rs ls left t A p = asked (turns_tell (λ A e p. telling shape turns chosen P rs ls A p) left t A nothing_bound p)
+  turns_ask P rs ls left t A p = asked (turns_tell (λ A e p. telling shape turns chosen P rs ls [] A p) left t A nothing_bound p)
 
 abbrev pub asks_in : Shape → (turns : ℕ) → RuleCode → State → Situation → List Asking
 asks_in shape turns P A s = asks shape turns (picked s) P [] [] A []

@@ -1,22 +1,14 @@
 -- Bridge to the code. The paths of the choices of an outcome: each `choose` that is reached has a
 -- path of its own, at or below that of the rule.
---     LiesAt p q               the path q is p, or leads on from it
---     HaveOwnPaths cs          no two choices have one path
---     LieBelow p cs            besides, each of them lies at the path p
+--     LieBelow p cs            no two choices have one path, and each of them lies at the path p
 --     IsPlacedIn p N cs        besides, each of them lies at a part of p, of a number of this kind
 --     IsPlacedFrom p k cs      of number k or a greater one
 --     IsPlacedBefore p k cs    of a number below k
-use Rattle.std.specs.Prelude.{◌≡◌, ◌≢◌, ◌≤◌, ◌<◌, ℕ, List, [], ◌∷◌, ◌++◌}
+use Rattle.std.specs.Prelude.{◌≤◌, ◌<◌, ℕ, List}
 use Rattle.asm_meaning.specs.Yields.{Path, at}
 use Rattle.asm_explore.specs.declared.outcomes.listed_outcome.Choice.{Choice}
-use Rattle.asm_explore.specs.code.ListElements.{Each}
-
-abbrev pub LiesAt : Path → Path → Type 0
-LiesAt p q = (r : Path) × (q ≡ p ++ r)
-
-abbrev pub HaveOwnPaths : List Choice → Type 0
-HaveOwnPaths [] = Unit {0}
-HaveOwnPaths (c ∷ cs) = Each (λ d. c.path ≢ d.path) cs × HaveOwnPaths cs
+use Rattle.asm_explore.specs.ListElements.{Each}
+pub use Rattle.asm_explore.specs.TakenChoices.{LiesAt, HaveOwnPaths}
 
 pub record LieBelow (p : Path) (cs : List Choice) : Type 0 where
   pub apart : HaveOwnPaths cs

@@ -27,7 +27,7 @@ module _ (shape : Shape) (turns : ℕ) (chosen : Path → ℕ) where
   made P rs ls A p = choices_of (asks shape turns chosen P rs ls A p)
 
   abbrev pub parts_made : RuleCodes → List Reading → Locations → ℕ → State → Path → List Choice
-  parts_made Ps rs ls k A p = choices_of (asked (parts_tell (tellings shape turns chosen Ps rs ls) k A nothing_bound p))
+  parts_made Ps rs ls k A p = choices_of (asked (parts_tell (tellings shape turns chosen Ps rs ls []) k A nothing_bound p))
 
   abbrev pub order_made : RuleCodes → List Reading → Locations → ℕ → State → Path → List Choice
   order_made Ps rs ls k A p = choices_of (order_asks shape turns chosen Ps rs ls k A p)

@@ -8,8 +8,7 @@ use Rattle.asm_syntax.specs.code.Views.{spec_of}
 use Rattle.asm_check.specs.declared.checked.Checked.{Checked}
 use Rattle.asm_meaning.specs.Declarations.{specification_of}
 use Rattle.asm_explore.specs.declared.outcomes.outcomes_error.RuleOverLimit.{RuleOverLimit}
-use Rattle.asm_explore.specs.RunChoices.{chosen_from}
-use Rattle.asm_explore.specs.code.StepOutcomes.{IsOverLimitOf}
+use Rattle.asm_explore.specs.TooManyOutcomes.{IsCrowded}
 
 abbrev pub IsMainOverLimit : Checked → (turns limit : ℕ) → State → RuleOverLimit → Type 0
-IsMainOverLimit checked turns limit A crowd = IsOverLimitOf (chosen_from (specification_of (spec_of checked.spec)) turns) limit A crowd
+IsMainOverLimit checked turns limit A crowd = IsCrowded (specification_of (spec_of checked.spec)) turns limit A crowd

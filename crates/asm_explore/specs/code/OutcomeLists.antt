@@ -1,6 +1,4 @@
 -- Bridge to the code. The outcomes of a rule through all scripts.
---     Situation            who says what is taken: a script, in a step
---     AreTaken s cs        the script takes these choices in this step
 --     Shows shape a r      a result of the code is this result
 --     IsShownBy a b        whatever the result a shows, b shows too
 --     Shown shape fs r     some result of a list is
@@ -13,28 +11,15 @@
 use Rattle.std.specs.Prelude.{◌≡◌, ℕ, ◌+◌, List, [], ◌∷◌, ◌++◌, ◌⊎◌}
 use Rattle.asm_state.specs.Signature.{Shape, count_of}
 use Rattle.asm_updates.specs.code.Stands.{Stands}
-use Rattle.asm_reader.specs.ScriptLines.{Script, pick}
 use Rattle.asm_meaning.specs.Yields.{Path, Result, Gives, Exhausted, at, beside}
 use Rattle.asm_explore.specs.declared.outcomes.listed_outcome.Choice.{Choice}
 use Rattle.asm_explore.specs.declared.outcomes.listed_outcome.RuleResult.{RuleResult}
 use Rattle.asm_explore.specs.declared.outcomes.listed_outcome.RuleResult.TheVariants as answer
 use Rattle.asm_explore.specs.declared.outcomes.listed_outcome.ListedOutcome.{ListedOutcome}
-pub use Rattle.asm_explore.specs.code.ListElements.{Each, AnyOf}
+pub use Rattle.asm_explore.specs.ListElements.{Each, AnyOf}
+pub use Rattle.asm_explore.specs.TakenChoices.{Situation, picked, IsTaken, AreTaken}
 use Rattle.asm_explore.specs.code.ChoicePaths.{LieBelow, IsPlacedFrom}
 use Rattle.asm_explore.specs.code.ChoiceLists.{choice_lists, AreSomeOf, behind, with_choice}
-
-pub record Situation : Type 0 where
-  pub script : Script
-  pub step : ℕ
-
-abbrev pub picked : Situation → List ℕ → ℕ
-picked s = pick s.script s.step
-
-abbrev pub IsTaken : Situation → Choice → Type 0
-IsTaken s c = picked s c.path ≡ c.number
-
-abbrev pub AreTaken : Situation → List Choice → Type 0
-AreTaken s cs = Each (IsTaken s) cs
 
 abbrev pub Shows : Shape → RuleResult → Result → Type 0
 Shows shape (answer.Set updates) (Gives U) = Stands shape updates.set U

@@ -1,5 +1,4 @@
 -- Bridge to the code. States that a search has reached.
---     steps_from        what a step from a state yields in each situation
 --     AtNode            it holds of the state of a node, and of what a refusal names
 --     Known nodes d A   some node of depth d or less has the state A
 --     Expanded          whatever a step yields from a node's state leads on to a state that is
@@ -30,7 +29,8 @@ use Rattle.asm_state.specs.Location.{State}
 use Rattle.asm_state.specs.Signature.{Shape, state_of}
 use Rattle.asm_state.specs.Updates.{UpdateSet, IsConsistent}
 use Rattle.asm_reader.specs.ScriptLines.{Script}
-use Rattle.asm_meaning.specs.Run.{Specification, step}
+use Rattle.asm_meaning.specs.Run.{Specification}
+pub use Rattle.asm_explore.specs.TakenChoices.{steps_from}
 use Rattle.asm_meaning.specs.Yields.{Path, Result, Gives, Exhausted}
 use Rattle.asm_explore.specs.declared.search_result.BadStep.{BadStep}
 use Rattle.asm_explore.specs.declared.search_result.SearchEnd.TheVariants as ended
@@ -46,9 +46,6 @@ use Rattle.asm_explore.specs.code.PackedNodes.{Node}
 use Rattle.asm_explore.specs.code.OutcomeLists.{Situation, Each, AnyOf, AreTaken, Shown, IsSound}
 use Rattle.asm_explore.specs.code.ChoicePaths.{HaveOwnPaths}
 use Rattle.asm_explore.specs.Search.{LeadsOn, IsDeadlock, GoesWrongIn, StaysWithin}
-
-abbrev pub steps_from : Specification → (turns : ℕ) → State → Situation → Result
-steps_from specification turns A s = (step specification turns s.script s.step A).result
 
 -- nodes that were added come from one
 abbrev pub AreBegun : (from : ℕ) → (old new : List Node) → Type 0

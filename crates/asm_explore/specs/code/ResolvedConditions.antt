@@ -6,7 +6,7 @@
 use Rattle.std.specs.Prelude.{◌≡◌, Bool, [], Option, option_map}
 use Rattle.asm_state.specs.Location.{State}
 use Rattle.asm_state.specs.Signature.{Shape}
-use Rattle.asm_syntax.specs.code.Views.{spec_of}
+use Rattle.asm_syntax.specs.code.Views.{spec_of, test_of}
 use Rattle.asm_syntax.specs.declared.term.Term.{Term}
 use Rattle.asm_check.specs.Faults.{inits}
 use Rattle.asm_check.specs.Shapes.{shape_of}
@@ -18,7 +18,11 @@ use Rattle.asm_code.specs.code.RuleViews.{rule_of}
 use Rattle.asm_code.specs.declared.code.Code.{Code}
 use Rattle.asm_resolve.specs.code.RuleScopes.{resolved_rule_in}
 use Rattle.asm_explore.specs.declared.resolved_question.ResolvedQuestion.{ResolvedQuestion}
-use Rattle.asm_explore.specs.Conditions.{term_holds}
+use Rattle.asm_explore.specs.Conditions.{condition_holds}
+
+-- a condition of the code, as a term
+abbrev pub term_holds : Checked → Option Term → State → Bool
+term_holds checked t A = condition_holds (spec_of checked.spec) (test_of t) A
 
 abbrev pub holds_in : Shape → Option Code → State → Bool
 holds_in shape c A = passes shape (option_map code_of c) [] A

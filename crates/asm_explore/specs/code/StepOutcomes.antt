@@ -1,10 +1,6 @@
 -- Bridge to the code. The outcomes of the step from a state.
 --     IsStep A fs            a list has what the step from a state yields, with choices at paths of
 --                            their own
---     IsOverLimitOf A crowd  more lists of choices than the limit says, as many as both numbers
---                            come to, added or multiplied, are made by the step from a state, each
---                            in each situation that takes it; each two take different candidates of
---                            some choose at the path that is named or below it
 --     IsListed A r           of a state there is such a list, or a refusal that says this
 use Rattle.std.specs.Prelude.{ℕ, List, Result as Returned, IfOk, IfErr}
 use Rattle.std.proofs.Common.{Vec, Global}
@@ -13,16 +9,13 @@ use Rattle.asm_state.specs.Signature.{Shape}
 use Rattle.asm_meaning.specs.Run.{Specification}
 use Rattle.asm_explore.specs.declared.outcomes.listed_outcome.Choice.{Choice}
 use Rattle.asm_explore.specs.declared.outcomes.listed_outcome.ListedOutcome.{ListedOutcome}
-use Rattle.asm_explore.specs.declared.outcomes.outcomes_error.RuleOverLimit.{RuleOverLimit}
 use Rattle.asm_explore.specs.declared.outcomes.outcomes_error.OutcomesError.{OutcomesError}
-use Rattle.asm_explore.specs.code.OverLimit.{AreMade, AreMany, Refuses}
+pub use Rattle.asm_explore.specs.TooManyOutcomes.{IsOverLimitOf}
+use Rattle.asm_explore.specs.TooManyOutcomes.{AreMade}
+use Rattle.asm_explore.specs.code.OverLimit.{Refuses}
 use Rattle.asm_explore.specs.code.OutcomeLists.{Situation, HaveChoices, Lists}
 use Rattle.asm_explore.specs.code.ChoicePaths.{HaveOwnPaths}
 use Rattle.asm_explore.specs.code.ReachedStates.{steps_from}
-
--- the step from a state has too many outcomes: of the rule at the path that is named
-abbrev pub IsOverLimitOf : (makes : State → Situation → List Choice) → (limit : ℕ) → State → RuleOverLimit → Type 0
-IsOverLimitOf makes limit A crowd = AreMany limit crowd (λ cs. HaveOwnPaths cs × AreMade (makes A) cs)
 
 module _ (shape : Shape) (specification : Specification) (turns : ℕ) where
   pub record IsStep (A : State) (fs : List ListedOutcome) : Type 0 where

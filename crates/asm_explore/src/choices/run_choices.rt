@@ -1,20 +1,19 @@
 //! The choices of a run, step by step.
 ghost use Rattle.std.specs.Prelude.{◌≡◌, ◌++◌, [], length, IfOk, IfSome, OnOk};
 ghost use Rattle.asm_state.specs.Signature.{count_of, state_of};
-ghost use Rattle.asm_state.specs.Updates.{UpdateSet};
 ghost use Rattle.asm_syntax.specs.code.Views.{spec_of};
 ghost use Rattle.asm_check.specs.Faults.{inits};
 ghost use Rattle.asm_check.specs.Shapes.{shape_of};
-ghost use Rattle.asm_updates.specs.code.Stands.{Stands};
 ghost use Rattle.asm_meaning.specs.Declarations.{main_rule, specification_of};
 ghost use Rattle.asm_code.specs.code.RuleViews.{rule_of};
 ghost use Rattle.asm_resolve.specs.code.RuleScopes.{resolved_rule_in};
+ghost use Rattle.asm_step.specs.code.Steps.{HasMainRule, shape_in, specification_in};
 ghost use Rattle.asm_explore.specs.code.AskedPieces.{all_said};
-ghost use Rattle.asm_explore.specs.code.StepLeads.{LeadsTo, LeadsUpon, situation_of};
+ghost use Rattle.asm_explore.specs.code.StepLeads.{LeadsTo, situation_of};
 ghost use Rattle.asm_explore.specs.code.ReachedStates.{steps_from};
 ghost use Rattle.asm_explore.specs.RunChoices.{AreAsked, AreChoices, MakesTheRun, asked_from, asked_in, choices_in, choices_made, lines_forward, of_run};
-ghost use Rattle.asm_explore.specs.code.ScriptTo.{lines_for};
-ghost use Rattle.asm_explore.specs.code.WrittenScripts.{AreSteps, lines_said};
+ghost use Rattle.asm_explore.specs.ChoiceLines.{lines_for};
+ghost use Rattle.asm_explore.specs.WrittenScripts.{AreSteps, lines_said};
 
 use crate::choices::ask_choices::add_asked;
 use crate::choices::choice_point::ChoicePoint;
@@ -23,14 +22,13 @@ use asm_check::Checked;
 use asm_code::rule_code::RuleCode;
 use asm_eval::evaluation::Evaluation;
 use asm_eval::frame::Frame;
-use asm_eval::piece::{Piece, whole_piece};
-use asm_meaning::part_set::PartSet;
-use asm_meaning::{Choices, Outcome, Part, Path, View};
+use asm_eval::piece::Piece;
+use asm_meaning::{Choices, Part, Path, View};
 use asm_reader::Picks;
 use asm_resolve::laws::resolving_laws;
 use asm_resolve::main_rule::resolve_main;
-use asm_state::signature::Signature;
 use asm_state::state::State;
+use asm_step::{ResolvedSpecification, Step};
 use asm_updates::summary::Summary;
 use std::alloc::{AllocError, Global};
 
@@ -41,24 +39,35 @@ pub struct RunChoices {
     pub steps: Vec<Vec<ChoicePoint>>,
 }
 
-/// The state that a set leads to, unless it is faulty.
-fn next_state(
+/// Adds what is asked in the step from a state.
+fn add_asked_in_step<P: Picks>(
     alloc: Global,
-    signature: &Signature,
-    set: &Summary,
+    resolved: &ResolvedSpecification<'_>,
+    choices: &Choices<'_, P>,
     state: &State,
-) -> Result<Option<State>, AllocError>
-    requires counted { set.now.count ≡ count_of signature.now }
-    requires whole { length state.now ≡ count_of signature.now }
-    ensures whole { IfOk result (λ next. IfSome next (λ s. length s ≡ count_of signature.now)) }
-    ensures upon { IfOk result (λ next. (U : UpdateSet) → Stands signature.now set.now U → LeadsUpon signature.now (state_of signature.now state.now) U next) }
+    asked: &mut Vec<ChoicePoint>,
+) -> Result<(), AllocError>
+    requires main { HasMainRule resolved.now }
+    requires whole { length state.now ≡ count_of (shape_in resolved.now) }
+    ensures { let m = resolved.now in
+        OnOk result (all_said asked.new.items ≡ all_said asked.old.items ++ asked_from (specification_in m) m.turns (state_of (shape_in m) state.now) (situation_of P.script choices.now)) }
 {
-    let part = PartSet::of(signature, set);
-    if part.ends_parts() {
-        return Ok(None);
-    }
-    let next = set.fire(alloc, signature, state)?;
-    Ok(Some(next))
+    resolving_laws();
+    let signature = resolved.checked.signature();
+    let nothing = Summary::new(alloc, signature.count());
+    let view = View::new(signature, state, &nothing);
+    let evaluation = Evaluation {
+        view: &view,
+        choices,
+        turns: resolved.turns,
+    };
+    let piece = Piece {
+        rule: resolved.code,
+        frame: Frame::Empty,
+        path: Path::new(Vec::new(alloc)),
+        part: Part::Whole,
+    };
+    add_asked(alloc, &evaluation, &piece, asked)
 }
 
 /// Adds what is asked in the step from a state, and returns the state that the step leads to,
@@ -81,25 +90,17 @@ pub(crate) fn make_step<P: Picks>(
         let A = state_of (shape_of s) state.now in
         IfOk result (LeadsTo (shape_of s) A (steps_from (specification_of s) turns A (situation_of P.script choices.now))) }
 {
-    resolving_laws();
-    let signature = checked.signature();
-    let nothing = Summary::new(alloc, signature.count());
-    let view = View::new(signature, state, &nothing);
-    let evaluation = Evaluation {
-        view: &view,
-        choices,
+    let resolved = ResolvedSpecification {
+        checked,
+        code,
         turns,
     };
-    let piece = Piece {
-        rule: code,
-        frame: Frame::Empty,
-        path: Path::new(Vec::new(alloc)),
-        part: Part::Whole,
-    };
-    add_asked(alloc, &evaluation, &piece, asked)?;
-    match whole_piece(alloc, &evaluation, &piece)? {
-        Outcome::Exhausted(_) => Ok(None),
-        Outcome::Set { set, .. } => next_state(alloc, signature, &set, state),
+    add_asked_in_step(alloc, &resolved, choices, state, asked)?;
+    let made = asm_step::make_step(alloc, &resolved, choices, state)?;
+    match made {
+        Step::Next(next) => Ok(Some(next)),
+        Step::Faulty(_) => Ok(None),
+        Step::Exhausted(_) => Ok(None),
     }
 }
 
@@ -118,8 +119,13 @@ pub fn choices_of_step<P: Picks>(
     ensures { let s = spec_of checked.now.spec in
         IfOk result (λ asked. all_said asked.items ≡ asked_from (specification_of s) turns (state_of (shape_of s) state.now) (situation_of P.script choices.now)) }
 {
+    let resolved = ResolvedSpecification {
+        checked,
+        code,
+        turns,
+    };
     let mut asked = Vec::new(alloc);
-    let _next = make_step(alloc, checked, code, turns, choices, state, &mut asked)?;
+    add_asked_in_step(alloc, &resolved, choices, state, &mut asked)?;
     Ok(asked)
 }
 

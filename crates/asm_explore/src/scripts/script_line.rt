@@ -1,6 +1,6 @@
 //! Lines of scripts that are written.
 ghost use Rattle.std.specs.Prelude.{◌≡◌};
-ghost use Rattle.asm_explore.specs.code.WrittenScripts.{is_written};
+ghost use Rattle.asm_explore.specs.WrittenScripts.{is_written};
 
 /// A line of a script: in this step the `choose` at this path takes the candidate with this number.
 #[derive(Clone, Copy, Debug)]

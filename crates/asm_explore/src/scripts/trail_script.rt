@@ -1,8 +1,8 @@
 //! The choices of some steps, as a script.
 ghost use Rattle.std.specs.Prelude.{◌≡◌, ℕ, map, unwrap_or};
-ghost use Rattle.asm_reader.specs.code.ExactLines.{exactly};
+ghost use Rattle.asm_reader.specs.ExactLines.{exactly};
 ghost use Rattle.asm_reader.specs.ScriptLines.{exact_choice};
-ghost use Rattle.asm_explore.specs.code.ScriptTo.{lines_for, lines_of};
+ghost use Rattle.asm_explore.specs.ChoiceLines.{lines_for, lines_of};
 
 use crate::outcomes::listed_outcome::Choice;
 use asm_reader::Picks;

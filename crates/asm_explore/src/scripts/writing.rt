@@ -1,10 +1,10 @@
 //! The text of a script, from its lines.
 ghost use Rattle.std.specs.Prelude.{◌≡◌, ◌≤◌, ◌++◌, ◌∷◌, [], length, decimal, IfErr, IfOk, OnOk};
 ghost use Rattle.std.specs.String.{string_bytes};
-ghost use Rattle.asm_reader.specs.code.ExactLines.{exactly};
+ghost use Rattle.asm_reader.specs.ExactLines.{exactly};
 ghost use Rattle.asm_reader.specs.ScriptText.{max_script, IsScript};
 ghost use Rattle.asm_meaning.specs.Scripts.{IsUnrepeated};
-ghost use Rattle.asm_explore.specs.code.WrittenScripts.{AreShort, AreSteps, IsTextOf, IsTextRefusal, dotted, line_said, line_text, lines_said, lines_text, numbers_in, numbers_of_line, path_text, written};
+ghost use Rattle.asm_explore.specs.WrittenScripts.{AreShort, AreSteps, IsTextOf, IsTextRefusal, dotted, line_said, line_text, lines_said, lines_text, numbers_in, numbers_of_line, path_text, written};
 
 use crate::scripts::script_line::{ScriptLine, Zeros};
 use crate::scripts::writing_error::WritingError;

@@ -6,7 +6,7 @@
 use Rattle.std.specs.Prelude.{◌≡◌, ◌++◌, ◌∷◌, [], ℕ, List}
 use Rattle.std.specs.BTreeMap.{BTreeMap}
 use Rattle.std.proofs.Common.{Vec, Global}
-use Rattle.asm_reader.specs.code.ExactLines.{exactly}
+use Rattle.asm_reader.specs.ExactLines.{exactly}
 use Rattle.asm_explore.specs.declared.fault.Fault.{Fault}
 use Rattle.asm_explore.specs.declared.resolved_question.ResolvedQuestion.{ResolvedQuestion}
 use Rattle.asm_random.specs.declared.draft.Draft.{Draft}

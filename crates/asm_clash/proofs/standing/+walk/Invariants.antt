@@ -7,7 +7,7 @@ use Rattle.asm_eval.specs.code.Frames.{readings_of}
 use Rattle.asm_eval.specs.code.Opening.{work_of}
 use Rattle.asm_eval.specs.code.Evaluation.{evaluation_choices, frame_locations, evaluation_shape, evaluation_state}
 use Rattle.asm_clash.specs.code.StandingRules.{order_in, stands_at}
-use Rattle.asm_clash.specs.code.BoundValues.{Detailed}
+use Rattle.asm_clash.specs.Standing.{Assigned}
 use Rattle.asm_clash.specs.code.FirstFound.{IsFound}
 use Rattle.asm_clash.proofs.OpenedRules.{works_stand}
 use Rattle.asm_clash.proofs.Sequences.{IsWalked, order_left, turns_left}
@@ -37,7 +37,7 @@ invariant-standing_in-loop-i g l =
     let at = location_at shape l.sought.location in
     let whole = stands_at r at l.sought.given.now l.piece.frame l.piece.path (rule_of l.piece.rule.now) in
     let left = works_stand shape r.turns (evaluation_choices r) at (evaluation_state r) l.given.items (map (work_of shape) (drop l.i l.pieces.items)) in
-    (first : List Detailed) × IsFound l.sought.most first l.all × (whole ≡ first ++ left)
+    (first : List Assigned) × IsFound l.sought.most first l.all × (whole ≡ first ++ left)
 
 -- the sets of the parts so far, and what is left of the parts
 abbrev pub invariant-standing_in_order-loop-i : goal.invariant-standing_in_order-loop-i
@@ -47,7 +47,7 @@ invariant-standing_in_order-loop-i g l =
     let at = location_at shape l.sought.location in
     record {
       counted : l.so_far.count ≡ count_of shape;
-      stand : List Detailed;
+      stand : List Assigned;
       kept : IsFound l.sought.most stand l.found;
       walked : IsWalked shape (evaluation_state r) (order_in r at l.sought.given.now l.frame l.path 0 (rules_of (map rule_of l.parts)) (evaluation_state r))
           (order_left shape r.turns (evaluation_choices r) at (readings_of shape l.frame) (frame_locations shape l.frame) l.sought.given.now l.path l.parts l.i)
@@ -62,7 +62,7 @@ invariant-standing_in_turns-loop-turn g l =
     let at = location_at shape l.sought.location in
     record {
       counted : l.so_far.count ≡ count_of shape;
-      stand : List Detailed;
+      stand : List Assigned;
       kept : IsFound l.sought.most stand l.found;
       walked : IsWalked shape (evaluation_state r) (stands_at r at l.sought.given.now l.frame l.path (tree.Iterate (rule_of l.body)))
           (turns_left shape r.turns (evaluation_choices r) at (readings_of shape l.frame) (frame_locations shape l.frame) l.sought.given.now l.path (rule_of l.body) l.turn)

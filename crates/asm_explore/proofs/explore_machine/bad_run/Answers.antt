@@ -2,7 +2,7 @@ use Rattle.std.proofs.Common.{◌-◌, ◌≡◌, ◌≤◌, ℕ, suc, ◌+◌, 
 use Rattle.std.specs.Prelude.{slice_get, IfNone, IfSome}
 use Rattle.std.specs.String.{string_bytes}
 use Rattle.std.proofs.lemmas.List.{length-map}
-use Rattle.asm_reader.specs.code.ExactLines.{exactly}
+use Rattle.asm_reader.specs.ExactLines.{exactly}
 use Rattle.asm_explore.specs.declared.outcomes.listed_outcome.Choice.{Choice}
 use Rattle.asm_explore.specs.declared.outcomes.outcomes_error.RuleOverLimit.{RuleOverLimit}
 use Rattle.asm_explore.specs.ChosenLines.{AreTooLong, IsChosenText, chosen_lines}
@@ -13,7 +13,7 @@ use Rattle.asm_explore.specs.code.SearchEnds.{HaltsSo}
 use Rattle.asm_explore.specs.code.PackedNodes.{Node}
 use Rattle.asm_explore.specs.code.ReachedStates.{AtNode, MakesAll, state_at}
 use Rattle.asm_explore.specs.code.StepOutcomes.{IsOverLimitOf}
-use Rattle.asm_explore.specs.code.ScriptTo.{lines_of}
+use Rattle.asm_explore.specs.ChoiceLines.{lines_of}
 use Rattle.asm_explore.specs.Search.{GoesWrongIn, HoldsBefore, StaysWithin, steps_to}
 use Rattle.asm_explore.proofs.StateLemmas.LastStates.{beyond_before, limited_to, safe_before}
 use Rattle.asm_explore.proofs.StateLemmas.LookedStates.{holds_less, known_before}

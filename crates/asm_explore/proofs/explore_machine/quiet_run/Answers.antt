@@ -1,15 +1,15 @@
-use Rattle.std.proofs.Common.{◌≡◌, ◌≤◌, ◌<◌, ℕ, suc, map, length, get_or, refl, ap, sym, subst, ◌∙◌, inl, inr, arith, Option, Some, String, Vec, Global}
+use Rattle.std.proofs.Common.{◌≡◌, map, length, get_or, refl, ap, sym, subst, ◌∙◌, inl, inr, arith, Option, Some, String, Vec, Global}
 use Rattle.std.specs.Prelude.{IfSome}
 use Rattle.std.specs.String.{string_bytes}
 use Rattle.std.proofs.lemmas.Bool.{cases_lt}
 use Rattle.std.proofs.lemmas.List.{length-map}
-use Rattle.asm_reader.specs.code.ExactLines.{exactly}
+use Rattle.asm_reader.specs.ExactLines.{exactly}
 use Rattle.asm_meaning.specs.Run.{AtLimit, run}
 use Rattle.asm_explore.specs.declared.outcomes.listed_outcome.Choice.{Choice}
 use Rattle.asm_explore.specs.ChosenLines.{IsChosenText}
 use Rattle.asm_explore.specs.code.ReachedStates.{MakesAll, state_at}
-use Rattle.asm_explore.specs.code.ScriptTo.{lines_of}
-use Rattle.asm_explore.specs.Search.{HoldsBefore, IsQuiet, StaysWithin}
+use Rattle.asm_explore.specs.ChoiceLines.{lines_of}
+use Rattle.asm_explore.specs.Search.{HoldsBefore, IsQuiet}
 use Rattle.asm_explore.proofs.StateLemmas.RunsAlongChoices.{trail_run}
 use Rattle.asm_explore.proofs.StateLemmas.SameRuns.{last_alike}
 use Rattle.asm_explore.proofs.ScriptLemmas.ScriptToState.{lines_make}

@@ -3,7 +3,7 @@ use Rattle.std.specs.Prelude.{Some}
 use Rattle.asm_state.specs.code.Contents.{IsStateOf}
 use Rattle.asm_explore.specs.ExplorationResults.{beyond, known_to}
 use Rattle.asm_explore.specs.code.Deadlocks.{safe_of}
-use Rattle.asm_explore.specs.code.ListElements.{Each}
+use Rattle.asm_explore.specs.ListElements.{Each}
 use Rattle.asm_explore.specs.code.PackedNodes.{Node}
 use Rattle.asm_explore.specs.code.ReachedStates.{IsGood}
 use Rattle.asm_explore.specs.declared.search_result.SearchEnd.TheVariants as ended

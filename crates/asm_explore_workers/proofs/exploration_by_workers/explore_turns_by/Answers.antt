@@ -1,8 +1,7 @@
 use Rattle.asm_syntax.specs.code.Views.{spec_of}
 use Rattle.asm_check.specs.Shapes.{shape_of}
 use Rattle.asm_meaning.specs.Declarations.{specification_of}
-use Rattle.asm_explore.specs.Conditions.{term_holds}
-use Rattle.asm_explore.specs.code.ResolvedConditions.{holds_in}
+use Rattle.asm_explore.specs.code.ResolvedConditions.{term_holds, holds_in}
 use Rattle.asm_explore.specs.code.MainRule.{IsMainOverLimit}
 use Rattle.asm_explore.proofs.Specifications.{same_rule_result}
 use Rattle.asm_explore_workers.proofs.exploration_by_workers.explore_turns_by.Goals as goal

@@ -1,5 +1,5 @@
 use Rattle.std.proofs.Common.{◌≢◌, take}
-use Rattle.asm_explore.specs.code.ListElements.{Each}
+use Rattle.asm_explore.specs.ListElements.{Each}
 use Rattle.asm_graph.specs.declared.graph.Node.{Node}
 use Rattle.asm_graph.proofs.find_node.find_node.Given as goal
 

@@ -1,8 +1,7 @@
 use Rattle.asm_syntax.specs.code.Views.{spec_of}
 use Rattle.asm_check.specs.Shapes.{shape_of}
 use Rattle.asm_meaning.specs.Declarations.{specification_of}
-use Rattle.asm_explore.specs.Conditions.{term_holds}
-use Rattle.asm_explore.specs.code.ResolvedConditions.{holds_in}
+use Rattle.asm_explore.specs.code.ResolvedConditions.{term_holds, holds_in}
 use Rattle.asm_explore.specs.code.MainRule.{IsMainOverLimit}
 use Rattle.asm_graph.proofs.SameConditions.{same_graph, same_refusal}
 use Rattle.asm_graph.proofs.graph_of_states.state_graph.Goals as goal

@@ -1,6 +1,6 @@
 use Rattle.std.proofs.Common.{◌≡◌, ℕ, Global, Option, String, string_bytes, subst, sym}
 use Rattle.std.specs.Prelude.{IfNone, IfSome, None, Some}
-use Rattle.asm_reader.specs.code.ExactLines.{exactly}
+use Rattle.asm_reader.specs.ExactLines.{exactly}
 use Rattle.asm_explore.specs.ChosenLines.{AreTooLong, IsChosenText, chosen_lines}
 use Rattle.asm_explore.specs.Search.{steps_to}
 use Rattle.asm_explore.specs.declared.fault.Fault.{Fault}

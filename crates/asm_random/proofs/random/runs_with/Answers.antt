@@ -3,9 +3,8 @@ use Rattle.std.specs.Prelude.{IfOk}
 use Rattle.asm_syntax.specs.code.Views.{spec_of}
 use Rattle.asm_check.specs.Shapes.{shape_of}
 use Rattle.asm_meaning.specs.Declarations.{specification_of}
-use Rattle.asm_explore.specs.Conditions.{term_holds}
+use Rattle.asm_explore.specs.code.ResolvedConditions.{term_holds, holds_in}
 use Rattle.asm_explore.specs.code.MainRule.{IsMainOverLimit}
-use Rattle.asm_explore.specs.code.ResolvedConditions.{holds_in}
 use Rattle.asm_random.specs.RandomResults.{Claims, Counts}
 use Rattle.asm_random.proofs.random.runs_with.Goals as goal
 

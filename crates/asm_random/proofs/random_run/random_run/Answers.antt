@@ -4,7 +4,7 @@ use Rattle.std.specs.Prelude.{IfOk, IfErr, Result}
 use Rattle.std.proofs.lemmas.Bool.{false≢true}
 use Rattle.asm_state.specs.code.Contents.{IsStateOf}
 use Rattle.asm_state.specs.Signature.{state_of}
-use Rattle.asm_reader.specs.code.ExactLines.{exactly}
+use Rattle.asm_reader.specs.ExactLines.{exactly}
 use Rattle.asm_random.specs.Drafts.{draft_lines}
 use Rattle.asm_random.specs.FineRuns.{MayEnd}
 use Rattle.asm_meaning.specs.Run.{IsStep}

@@ -1,14 +1,14 @@
 use Rattle.std.proofs.Common.{◌≡◌, ◌∙◌, sym, ap, subst}
 use Rattle.std.specs.String.{string_bytes}
 use Rattle.asm_syntax.specs.code.Views.{spec_of}
-use Rattle.asm_reader.specs.code.ExactLines.{exactly}
+use Rattle.asm_reader.specs.ExactLines.{exactly}
 use Rattle.asm_reader.specs.ScriptText.{IsScript}
 use Rattle.asm_meaning.specs.Declarations.{specification_of}
 use Rattle.asm_meaning.specs.Scripts.{IsUnrepeated}
 use Rattle.asm_explore.specs.ChosenLines.{AreTooLong}
 use Rattle.asm_explore.specs.RunChoices.{choices_in, lines_forward}
-use Rattle.asm_explore.specs.code.ScriptTo.{needed}
-use Rattle.asm_explore.specs.code.WrittenScripts.{AreSteps, IsTextOf, IsTextRefusal, lines_said, lines_text, numbers_in}
+use Rattle.asm_explore.specs.ChoiceLines.{needed}
+use Rattle.asm_explore.specs.WrittenScripts.{AreSteps, IsTextOf, IsTextRefusal, lines_said, lines_text, numbers_in}
 use Rattle.asm_explore.proofs.ChoiceLemmas.ChosenTexts.{needed_lines, needed_text, too_long}
 use Rattle.asm_explore.proofs.ChoiceLemmas.SameRun.{makes_the_run}
 use Rattle.asm_explore.proofs.choices.chosen_text.chosen_text.Goals as goal

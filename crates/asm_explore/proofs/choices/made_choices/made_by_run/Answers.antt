@@ -1,4 +1,4 @@
-use Rattle.std.proofs.Common.{◌≡◌, ◌∙◌, ◌+◌, ◌-◌, ◌++◌, ◌∷◌, [], List, length, map, Option, Some, None, Vec, Global, ap, subst, sym}
+use Rattle.std.proofs.Common.{◌≡◌, ◌∙◌, ◌+◌, ◌-◌, ◌++◌, ◌∷◌, [], List, length, Option, Some, None, Vec, Global, ap, subst, sym}
 use Rattle.std.proofs.lemmas.List.{map_push}
 use Rattle.asm_state.specs.Signature.{Shape, count_of, initial_state, state_of}
 use Rattle.asm_state.specs.declared.value.Value.{Value}

@@ -3,8 +3,8 @@ use Rattle.std.proofs.lemmas.List.{append_assoc, map_push}
 use Rattle.asm_reader.specs.ScriptLines.{Line}
 use Rattle.asm_explore.specs.declared.choices.choice_point.ChoicePoint.{ChoicePoint}
 use Rattle.asm_explore.specs.RunChoices.{choices_made}
-use Rattle.asm_explore.specs.code.ScriptTo.{lines_for}
-use Rattle.asm_explore.specs.code.WrittenScripts.{line_said, lines_said}
+use Rattle.asm_explore.specs.ChoiceLines.{lines_for}
+use Rattle.asm_explore.specs.WrittenScripts.{line_said, lines_said}
 use Rattle.asm_explore.proofs.ChoiceLemmas.RunSteps.{for_more}
 use Rattle.asm_explore.proofs.choices.run_choices.add_lines.Goals as goal
 

@@ -1,7 +1,7 @@
 use Rattle.std.proofs.Common.{◌≡◌, ◌++◌, take}
 use Rattle.asm_explore.specs.RunChoices.{choices_made}
-use Rattle.asm_explore.specs.code.ScriptTo.{lines_for}
-use Rattle.asm_explore.specs.code.WrittenScripts.{lines_said}
+use Rattle.asm_explore.specs.ChoiceLines.{lines_for}
+use Rattle.asm_explore.specs.WrittenScripts.{lines_said}
 use Rattle.asm_explore.proofs.choices.run_choices.add_lines.Given as goal
 
 -- lines for the first choices

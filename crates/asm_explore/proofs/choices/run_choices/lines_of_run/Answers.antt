@@ -1,7 +1,7 @@
 use Rattle.std.proofs.Common.{◌+◌, ◌++◌, take, sym, subst, ap, ◌∙◌}
 use Rattle.asm_explore.specs.RunChoices.{choices_made, lines_forward}
-use Rattle.asm_explore.specs.code.ScriptTo.{lines_for}
-use Rattle.asm_explore.specs.code.WrittenScripts.{AreSteps}
+use Rattle.asm_explore.specs.ChoiceLines.{lines_for}
+use Rattle.asm_explore.specs.WrittenScripts.{AreSteps}
 use Rattle.asm_explore.proofs.ChoiceLemmas.RunSteps.{lines_counted, step_more, steps_made}
 use Rattle.asm_explore.proofs.choices.run_choices.lines_of_run.Goals as goal
 

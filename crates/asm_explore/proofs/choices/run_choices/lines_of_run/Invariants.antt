@@ -1,6 +1,6 @@
 use Rattle.std.proofs.Common.{◌≡◌, take}
 use Rattle.asm_explore.specs.RunChoices.{lines_forward}
-use Rattle.asm_explore.specs.code.WrittenScripts.{lines_said}
+use Rattle.asm_explore.specs.WrittenScripts.{lines_said}
 use Rattle.asm_explore.proofs.ChoiceLemmas.RunSteps.{steps_made}
 use Rattle.asm_explore.proofs.choices.run_choices.lines_of_run.Given as goal
 

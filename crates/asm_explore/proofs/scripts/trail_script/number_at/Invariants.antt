@@ -1,6 +1,6 @@
 use Rattle.std.proofs.Common.{◌≡◌, ℕ, drop}
 use Rattle.asm_reader.specs.ScriptLines.{exact_choice}
-use Rattle.asm_explore.specs.code.ScriptTo.{lines_for}
+use Rattle.asm_explore.specs.ChoiceLines.{lines_for}
 use Rattle.asm_explore.proofs.scripts.trail_script.number_at.Given as goal
 
 -- the choices so far have another path

@@ -2,7 +2,7 @@ use Rattle.std.proofs.Common.{◌≡◌, ◌++◌, ◌∷◌, [], ◌+◌, decim
 use Rattle.std.specs.String.{string_bytes}
 use Rattle.std.proofs.lemmas.List.{append-nil, at_drop_all, drop_all, drop_more}
 use Rattle.std.proofs.lemmas.Result.{err_from_is_err_and}
-use Rattle.asm_explore.specs.code.WrittenScripts.{AnyIsLong, AreShort, dotted}
+use Rattle.asm_explore.specs.WrittenScripts.{AnyIsLong, AreShort, dotted}
 use Rattle.asm_explore.proofs.ScriptLemmas.TextFronts.{dotted_at, grown, long_first, shorter, refusal_in}
 use Rattle.asm_explore.proofs.scripts.writing.add_dotted.Goals as goal
 

@@ -1,7 +1,7 @@
 use Rattle.std.proofs.Common.{◌≡◌, ◌++◌, ◌∷◌, [], cond, IfErr, OnOk, ap, ◌∙◌, sym, subst}
 use Rattle.std.specs.String.{string_bytes}
 use Rattle.std.proofs.lemmas.List.{append-nil}
-use Rattle.asm_explore.specs.code.WrittenScripts.{line_said, AreShort, IsTextRefusal, line_text, lines_text, numbers_in, numbers_of_line, written}
+use Rattle.asm_explore.specs.WrittenScripts.{line_said, AreShort, IsTextRefusal, line_text, lines_text, numbers_in, numbers_of_line, written}
 use Rattle.asm_explore.proofs.scripts.writing.add_written.Goals as goal
 
 pub returns-then-writes : goal.returns-then-writes

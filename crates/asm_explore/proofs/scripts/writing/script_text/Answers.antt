@@ -4,7 +4,7 @@ use Rattle.std.proofs.lemmas.Grind.{flat_map-append}
 use Rattle.std.proofs.lemmas.List.{append-nil, at_drop_all}
 use Rattle.std.proofs.lemmas.Result.{err_from_is_err_and}
 use Rattle.asm_explore.specs.declared.scripts.script_line.ScriptLine.{ScriptLine}
-use Rattle.asm_explore.specs.code.WrittenScripts.{line_said, lines_said, AnyIsLong, AreShort, IsLong, IsShort, IsTextOf, line_text, lines_text, numbers_in, numbers_of_line, written}
+use Rattle.asm_explore.specs.WrittenScripts.{line_said, lines_said, AnyIsLong, AreShort, IsLong, IsShort, IsTextOf, line_text, lines_text, numbers_in, numbers_of_line, written}
 use Rattle.asm_explore.proofs.ScriptLemmas.TextFronts.{grown, left, left_at, shorter, refusal_in}
 use Rattle.asm_explore.proofs.ScriptLemmas.LinesLeftOut.{apart_of, apart_written, steps_written}
 use Rattle.asm_explore.proofs.ScriptLemmas.WrittenIsRead.{reads_back}

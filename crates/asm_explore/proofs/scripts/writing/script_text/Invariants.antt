@@ -1,7 +1,7 @@
 use Rattle.std.proofs.Common.{◌≡◌, ◌≤◌, ◌++◌, length, drop}
 use Rattle.std.specs.String.{string_bytes}
 use Rattle.asm_reader.specs.ScriptText.{max_script}
-use Rattle.asm_explore.specs.code.WrittenScripts.{lines_said, AnyIsLong, AreShort, lines_text, numbers_in, written}
+use Rattle.asm_explore.specs.WrittenScripts.{lines_said, AnyIsLong, AreShort, lines_text, numbers_in, written}
 use Rattle.asm_explore.proofs.scripts.writing.script_text.Given as goal
 
 -- what is left leads to the whole

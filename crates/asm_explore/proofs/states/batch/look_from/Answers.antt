@@ -1,6 +1,6 @@
 use Rattle.std.proofs.Common.{◌≡◌, List, length, sym, subst, take}
 use Rattle.asm_state.specs.Signature.{count_of}
-use Rattle.asm_explore.specs.code.ListElements.{Each}
+use Rattle.asm_explore.specs.ListElements.{Each}
 use Rattle.asm_explore.specs.code.PackedNodes.{Node}
 use Rattle.asm_explore.specs.code.StepsAhead.{AreAhead}
 use Rattle.asm_explore.proofs.states.batch.look_from.Goals as goal

@@ -5,7 +5,7 @@ use Rattle.std.proofs.lemmas.List.{length-map}
 use Rattle.std.proofs.lemmas.Option.{slice_get-get_or, slice_get-map}
 use Rattle.asm_reader.specs.ScriptLines.{exact_choice}
 use Rattle.asm_explore.specs.declared.outcomes.listed_outcome.Choice.{Choice}
-use Rattle.asm_explore.specs.code.ScriptTo.{lines_for, lines_of}
+use Rattle.asm_explore.specs.ChoiceLines.{lines_for, lines_of}
 use Rattle.asm_explore.proofs.ScriptLemmas.TrailPicks.{at_none, at_step, or_nothing}
 use Rattle.asm_explore.proofs.scripts.trail_script.TrailScriptPicks.pick.Goals as goal
 

@@ -1,9 +1,9 @@
 use Rattle.std.proofs.Common.{subst}
 use Rattle.asm_state.specs.Updates.{IsFirstFault}
-use Rattle.asm_updates.specs.code.Faults.{fault_of}
+use Rattle.asm_updates.specs.Faults.{fault_of}
 use Rattle.asm_updates.specs.declared.fault.Fault.{Fault as NumberedFault}
 use Rattle.asm_clash.proofs.FirstFaults.{outside_held}
-use Rattle.asm_clash.proofs.step_end.fault_number.Goals as goal
+use Rattle.asm_clash.proofs.fault_assignments.fault_number.Goals as goal
 
 pub stray_number-requires : goal.stray_number-requires
 stray_number-requires c =

@@ -1,4 +1,4 @@
--- Bridge to the code. What holds of the elements of a list.
+-- Definition. What holds of the elements of a list.
 --     Each P xs       it holds of each
 --     AnyOf P xs      it holds of some
 use Rattle.std.specs.Prelude.{List, [], ◌∷◌, ◌⊎◌}

@@ -1,4 +1,4 @@
--- Bridge to the code. The text of a script whose lines are for one step each.
+-- Definition. The text of a script whose lines are for one step each.
 --     line_said line                     what a line says
 --     line_text line                     step, path and number, with a space between each two, and
 --                                        a line feed at its end
@@ -21,7 +21,7 @@ use Rattle.asm_explore.specs.declared.scripts.script_line.Zeros.{Zeros}
 use Rattle.asm_explore.specs.declared.scripts.script_line.Zeros.TheVariants.{Written, LeftOut}
 use Rattle.asm_explore.specs.declared.scripts.writing_error.WritingError.{WritingError}
 use Rattle.asm_explore.specs.declared.scripts.writing_error.WritingError.TheVariants.{TooLong, LongNumber}
-use Rattle.asm_explore.specs.code.OutcomeLists.{Each, AnyOf}
+use Rattle.asm_explore.specs.ListElements.{Each, AnyOf}
 
 abbrev pub line_said : ScriptLine → Line
 line_said line = record { step = line.step; path = line.path.now; choice = line.number }

@@ -1,4 +1,4 @@
--- Bridge to the code. The script that makes the choices of steps: a line for each choice, in the
+-- Definition. The script that makes the choices of steps: a line for each choice, in the
 -- order of the steps.
 --     lines_for step cs     for the choices of a step
 --     lines_of back         for those of some steps, which are given last first
