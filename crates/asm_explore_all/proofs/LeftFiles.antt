@@ -18,7 +18,7 @@ use Rattle.asm_explore_words.specs.declared.settings.Settings.{Settings}
 use Rattle.asm_explore_report.specs.Refusals.{IsQuestionRefused}
 use Rattle.asm_explore_all.specs.AllFacts.{ExplainsDrawing, ExplainsScript, IsDrawn, quiet_files}
 use Rattle.asm_explore_all.specs.AllReport.{AreFilesOf, ExplainsAll}
-use Rattle.asm_explore_all.specs.CheckedQuestions.{IsExplored}
+use Rattle.asm_explore_all.specs.AskedQuestions.{IsExplored}
 use Rattle.asm_explore_all.specs.MadeFiles.{MadeFile, Makes}
 use Rattle.asm_explore_all.proofs.GrowingFiles.{first_all, makes_both, makes_none, stops_after, stops_more}
 

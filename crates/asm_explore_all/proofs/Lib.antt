@@ -1,2 +1,3 @@
 pub mod GrowingFiles
 mod LeftFiles
+mod PlainQuestions

@@ -19,11 +19,10 @@
 --     AreFacts                        all of them, in order
 use Rattle.std.specs.Prelude.{◌≡◌, ◌⊎◌, ℕ, List, [], ◌∷◌, ◌++◌, length, Option, Some, None, option_map, codes, decimal}
 use Rattle.std.specs.String.{string_bytes}
-use Rattle.asm_syntax.specs.code.Views.{spec_of}
 use Rattle.asm_check.specs.Shapes.{shape_of}
 use Rattle.asm_meaning.specs.Declarations.{specification_of}
-use Rattle.asm_explore.specs.Conditions.{term_holds}
-use Rattle.asm_explore.specs.code.MainRule.{IsMainOverLimit}
+use Rattle.asm_explore.specs.Conditions.{condition_holds}
+use Rattle.asm_explore.specs.TooManyOutcomes.{IsCrowded}
 use Rattle.asm_explore.specs.declared.exploration_result.ExplorationResult.{ExplorationResult}
 use Rattle.asm_explore.specs.declared.exploration_result.Finding.{Finding}
 use Rattle.asm_explore.specs.declared.exploration_result.Finding.TheVariants as finding
@@ -43,7 +42,7 @@ use Rattle.asm_explore_report.specs.Commands.{command, file_word}
 use Rattle.asm_explore_report.specs.Facts.{always_lines, condition_line, deadlock_words, looked_for}
 use Rattle.asm_explore_report.specs.ShownRuns.{Shown, first_state, shown_bad}
 use Rattle.asm_explore_all.specs.MadeFiles.{MadeFile, Makes, StopsAt}
-use Rattle.asm_explore_all.specs.declared.checked_question.CheckedQuestion.{CheckedQuestion}
+use Rattle.asm_explore_all.specs.AskedQuestions.{AskedQuestion}
 
 -- ---- conditions
 
@@ -121,21 +120,17 @@ command_lines turns name (Some run) = command run.1 turns name ∷ []
 abbrev pub graph_note : List ℕ
 graph_note = codes "no graph is written: more than 2000 states"
 
-module _ (asked : CheckedQuestion) where
+module _ (asked : AskedQuestion) where
   -- the text of the graph, which has at most 2,000 states
   abbrev pub IsGraphText : List ℕ → Type 0
   IsGraphText text =
-      let s = spec_of asked.checked.spec in
-      let q = asked.question in
       (graph : Graph)
-      × IsGraph (shape_of s) (specification_of s) q.turns (term_holds asked.checked q.within) (IsMainOverLimit asked.checked q.turns q.outcomes) q.steps 2000
-      (term_holds asked.checked q.always) (term_holds asked.checked q.when_quiet) graph
-      × (text ≡ dot_of s graph)
+      × IsGraph (shape_of asked.spec) (specification_of asked.spec) asked.turns (condition_holds asked.spec asked.within) (IsCrowded (specification_of asked.spec) asked.turns asked.outcomes) asked.steps 2000
+      (condition_holds asked.spec asked.always) (condition_holds asked.spec asked.when_quiet) graph
+      × (text ≡ dot_of asked.spec graph)
 
   abbrev pub HasTooMany : Type 0
-  HasTooMany =
-      let q = asked.question in
-      AreTooMany (specification_of (spec_of asked.checked.spec)) q.turns (term_holds asked.checked q.within) q.steps 2000
+  HasTooMany = AreTooMany (specification_of asked.spec) asked.turns (condition_holds asked.spec asked.within) asked.steps 2000
 
   -- it is asked for by the name of a file
   abbrev pub IsDrawn : (file : Option (List ℕ)) → (lines : List (List ℕ)) → (made : List MadeFile) → Type 0

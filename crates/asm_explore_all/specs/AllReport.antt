@@ -16,10 +16,7 @@
 --                                   written; memory ran out; or the run that was found isn't
 --                                   confirmed, and all files are made
 use Rattle.std.specs.Prelude.{◌≡◌, ◌⊎◌, ℕ, List, [], ◌++◌, Option, Some, option_map, ⊤}
-use Rattle.asm_state.specs.declared.operation.Op.{Op}
-use Rattle.asm_syntax.specs.code.Views.{spec_of}
-use Rattle.asm_syntax.specs.declared.term.Term.{Term}
-use Rattle.asm_check.specs.declared.checked.Checked.{Checked}
+use Rattle.asm_syntax.specs.SourceTree.{Spec, Term}
 use Rattle.asm_meaning.specs.Declarations.{specification_of}
 use Rattle.asm_explore.specs.declared.exploration_result.ExplorationResult.{ExplorationResult}
 use Rattle.asm_explore.specs.declared.exploration_result.Finding.{Finding}
@@ -33,10 +30,9 @@ use Rattle.asm_explore_report.specs.Printed.{IsPrinted}
 use Rattle.asm_explore_report.specs.Refusals.{IsQuestionRefused}
 use Rattle.asm_explore_report.specs.declared.report.Report.{Report}
 use Rattle.asm_explore_all.specs.AllFacts.{AreFacts, IsDrawn, quiet_files, shown_in}
-use Rattle.asm_explore_all.specs.CheckedQuestions.{IsExplored}
+use Rattle.asm_explore_all.specs.AskedQuestions.{AskedQuestion, IsExplored}
 use Rattle.asm_explore_all.specs.FindingLine.{first_line}
 use Rattle.asm_explore_all.specs.MadeFiles.{MadeFile, Makes, MakesFirst, StopsAt}
-use Rattle.asm_explore_all.specs.declared.checked_question.CheckedQuestion.{CheckedQuestion}
 
 abbrev pub status_of : Finding → ℕ
 status_of finding.Closed = 0
@@ -48,23 +44,23 @@ status_of (finding.TooManyStates safe_to) = 5
 status_of (finding.TooManyOutcomes safe_to crowd) = 5
 status_of (finding.NoMemory safe_to) = 5
 
-abbrev pub WordsTell : Checked → List (Op × Term) → (turns : ℕ) → Finding → (words : List ℕ) → Type 0
-WordsTell checked links turns (finding.BadStep bad) words = BadTells checked links turns bad words
-WordsTell checked links turns finding.WrongFirst words = IsBroken checked links (specification_of (spec_of checked.spec)).initial words
-WordsTell checked links turns finding.Closed words = ⊤
-WordsTell checked links turns (finding.SafeTo depth) words = ⊤
-WordsTell checked links turns (finding.TooManyStates safe_to) words = ⊤
-WordsTell checked links turns (finding.TooManyOutcomes safe_to crowd) words = ⊤
-WordsTell checked links turns (finding.NoMemory safe_to) words = ⊤
-WordsTell checked links turns (finding.Unwritten unwritten) words = words ≡ unwritten_words
+abbrev pub WordsTell : Spec → List Term → (turns : ℕ) → Finding → (words : List ℕ) → Type 0
+WordsTell s terms turns (finding.BadStep bad) words = BadTells s terms turns bad words
+WordsTell s terms turns finding.WrongFirst words = IsBroken s terms (specification_of s).initial words
+WordsTell s terms turns finding.Closed words = ⊤
+WordsTell s terms turns (finding.SafeTo depth) words = ⊤
+WordsTell s terms turns (finding.TooManyStates safe_to) words = ⊤
+WordsTell s terms turns (finding.TooManyOutcomes safe_to crowd) words = ⊤
+WordsTell s terms turns (finding.NoMemory safe_to) words = ⊤
+WordsTell s terms turns (finding.Unwritten unwritten) words = words ≡ unwritten_words
 
 module _ (text : List ℕ) (conditions : Conditions) (settings : Settings) where
-  pub record IsReport (asked : CheckedQuestion) (links : List (Op × Term)) (answer : ExplorationResult) (graph : List (List ℕ)) (printed : List ℕ) : Type 0 where
+  pub record IsReport (asked : AskedQuestion) (terms : List Term) (answer : ExplorationResult) (graph : List (List ℕ)) (printed : List ℕ) : Type 0 where
     pub words : List ℕ
-    pub tell : WordsTell asked.checked links asked.question.turns answer.finding words
+    pub tell : WordsTell asked.spec terms asked.turns answer.finding words
     pub facts : List (List ℕ)
     pub are_facts : AreFacts text conditions settings answer graph facts
-    pub are_printed : IsPrinted text asked.question.turns settings.trace (first_line answer.finding words) facts (shown_in answer.finding) printed
+    pub are_printed : IsPrinted text asked.turns settings.trace (first_line answer.finding words) facts (shown_in answer.finding) printed
 
   pub record AreFilesOf (files : List MadeFile) : Type 0 where
     pub answer : ExplorationResult
@@ -78,7 +74,7 @@ module _ (text : List ℕ) (conditions : Conditions) (settings : Settings) where
   pub record IsReported (report : Report) (files : List MadeFile) : Type 0 where
     pub found : AreFilesOf files
     pub status : report.status ≡ status_of found.answer.finding
-    pub printed : IsReport found.explored.asked found.explored.is_asked.always.links found.answer found.graph report.text.items
+    pub printed : IsReport found.explored.asked found.explored.is_asked.terms found.answer found.graph report.text.items
 
   abbrev pub IsReportedBy : (old new : Option (List MadeFile)) → Report → Type 0
   IsReportedBy old new report = (files : List MadeFile) × Makes old new files × IsReported report files

@@ -1,6 +1,6 @@
 pub mod AllFacts
 pub mod AllReport
-pub mod CheckedQuestions
+pub mod AskedQuestions
 pub mod FindingLine
 pub mod MadeFiles
 pub mod code

@@ -4,9 +4,9 @@ ghost use Rattle.asm_state.specs.declared.operation.Op.{Op};
 ghost use Rattle.asm_syntax.specs.code.Views.{spec_of};
 ghost use Rattle.asm_syntax.specs.declared.term.Term.{Term as Code};
 ghost use Rattle.asm_run.specs.Headline.{IsAccepted};
-ghost use Rattle.asm_explore_texts.specs.Conditions.{IsJoined};
+ghost use Rattle.asm_explore_texts.specs.code.CodedConditions.{IsJoined, terms_in};
 ghost use Rattle.asm_explore_all.specs.AllReport.{ExplainsAll, IsReport, IsReportedBy, WordsTell, status_of as found_status};
-ghost use Rattle.asm_explore_all.specs.CheckedQuestions.{IsAsked};
+ghost use Rattle.asm_explore_all.specs.code.CodedQuestions.{IsAskedBy, plain};
 ghost use Rattle.asm_explore_all.specs.code.GraphFiles.{graph_lines};
 
 use crate::checked_question::{CheckedQuestion, ask};
@@ -47,7 +47,7 @@ fn words_of<R: Threads + Sync>(
     finding: &Finding,
 ) -> Result<Vec<u8>, Unshown>
     ensures { (links : List (Op × Code)) → IsJoined links subject.now.always.now → IsAccepted text.now (spec_of subject.now.checked.now.spec) →
-        IfOk result (λ words. WordsTell subject.now.checked.now links subject.now.turns finding.now words.items) }
+        IfOk result (λ words. WordsTell (spec_of subject.now.checked.now.spec) (terms_in links) subject.now.turns finding.now words.items) }
 {
     match finding {
         Finding::BadStep(bad) => bad_words(rt, alloc, text, subject, bad),
@@ -74,7 +74,7 @@ fn printed_of<R: Threads + Sync>(
 ) -> Result<Vec<u8>, Unshown>
     requires accepted { IsAccepted text.now (spec_of asked.now.checked.spec) }
     ensures { (links : List (Op × Code)) → IsJoined links asked.now.question.always →
-        IfOk result (λ whole. IsReport text.now conditions.now settings.now asked.now links answered.now (graph_lines drawing) whole.items) }
+        IfOk result (λ whole. IsReport text.now conditions.now settings.now (plain asked.now) (terms_in links) answered.now (graph_lines drawing) whole.items) }
 {
     let finding = &answered.finding;
     let subject = Subject {
@@ -121,7 +121,7 @@ fn reported<'w, R: Threads + Sync, F: NewFiles, W: Watch<Progress>>(
     settings: &Settings<'w>,
     watch: &mut W,
 ) -> Result<Report, Fault<'w>>
-    requires asked { IsAsked text.now conditions.now settings.now asked.now }
+    requires asked { IsAskedBy text.now conditions.now settings.now asked.now }
     ensures reported { IfOk result (IsReportedBy text.now conditions.now settings.now (F.made files.old) (F.made files.new)) }
     ensures explained { IfErr result (ExplainsAll text.now conditions.now settings.now (F.made files.old) (F.made files.new)) }
 {

@@ -2,9 +2,10 @@
 ghost use Rattle.std.specs.Prelude.{ℕ, List, IfErr, IfOk};
 ghost use Rattle.asm_syntax.specs.code.Views.{spec_of};
 ghost use Rattle.asm_run.specs.Headline.{IsAccepted};
-ghost use Rattle.asm_explore_all.specs.CheckedQuestions.{IsAsked};
+ghost use Rattle.asm_explore_all.specs.code.CodedQuestions.{IsAskedBy};
 ghost use Rattle.asm_explore_report.specs.Refusals.{IsQuestionRefused};
-ghost use Rattle.asm_explore_texts.specs.Conditions.{MayBeConditionOf, text_of};
+ghost use Rattle.asm_explore_texts.specs.Conditions.{text_of};
+ghost use Rattle.asm_explore_texts.specs.code.CodedConditions.{MayBeConditionOf};
 ghost use Rattle.asm_explore_texts.specs.RefusedTexts.{ExplainsText, IsAnyRefused, IsOtherRefused};
 
 use asm_check::Checked;
@@ -30,7 +31,7 @@ pub fn ask<'w>(
     conditions: &Conditions<'w>,
     settings: &Settings<'w>,
 ) -> Result<CheckedQuestion, Fault<'w>>
-    ensures found { IfOk result (IsAsked text.now conditions.now settings.now) }
+    ensures found { IfOk result (IsAskedBy text.now conditions.now settings.now) }
     ensures refused { IfErr result (ExplainsText (IsQuestionRefused text.now settings.now.spec.now conditions.now)) }
 {
     let checked = checked(alloc, text, settings.spec)?;
@@ -51,7 +52,7 @@ fn question_of<'w>(
     settings: &Settings<'w>,
 ) -> Result<Question, Fault<'w>>
     ensures found { IfOk result (λ question. (text : List ℕ) → IsAccepted text (spec_of checked.now.spec)
-        → IsAsked text conditions.now settings.now (record { checked = checked.now; question = question })) }
+        → IsAskedBy text conditions.now settings.now (record { checked = checked.now; question = question })) }
     ensures refused { IfErr result (ExplainsText (IsAnyRefused (spec_of checked.now.spec) conditions.now)) }
 {
     let always = all_asked(alloc, checked, conditions.always.as_slice())?;

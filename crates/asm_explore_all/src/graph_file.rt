@@ -3,6 +3,7 @@ ghost use Rattle.std.specs.Prelude.{List, option_map, IfErr, IfNone, IfOk, IfSom
 ghost use Rattle.std.specs.String.{string_bytes};
 ghost use Rattle.asm_explore_all.specs.AllFacts.{ExplainsDrawing, HasTooMany, IsDrawn, IsGraphText};
 ghost use Rattle.asm_explore_all.specs.MadeFiles.{MadeFile, Makes};
+ghost use Rattle.asm_explore_all.specs.code.CodedQuestions.{plain};
 ghost use Rattle.asm_explore_all.specs.code.GraphFiles.{graph_lines};
 
 use crate::checked_question::CheckedQuestion;
@@ -27,8 +28,8 @@ pub(crate) enum GraphFile {
 
 /// The text of the graph of states that the question comes to, unless it has too many.
 fn graph_text(alloc: Global, asked: &CheckedQuestion) -> Result<Option<String>, AllocError>
-    ensures few { IfOk result (λ text. IfSome text (λ dot. IsGraphText asked.now (string_bytes dot))) }
-    ensures many { IfOk result (λ text. IfNone text (HasTooMany asked.now)) }
+    ensures few { IfOk result (λ text. IfSome text (λ dot. IsGraphText (plain asked.now) (string_bytes dot))) }
+    ensures many { IfOk result (λ text. IfNone text (HasTooMany (plain asked.now))) }
 {
     let graph = match state_graph(alloc, &asked.checked, &asked.question, MAX_GRAPH_STATES) {
         Ok(graph) => graph,
@@ -48,8 +49,8 @@ pub(crate) fn draw<'w, F: NewFiles>(
     name: Option<&'w str>,
 ) -> Result<GraphFile, Fault<'w>>
     ensures drawn { IfOk result (λ drawing. (made : List MadeFile) × Makes (F.made files.old) (F.made files.new) made
-        × IsDrawn asked.now (option_map (λ name. name.now) name.entry) (graph_lines drawing) made) }
-    ensures explained { IfErr result (ExplainsDrawing asked.now (option_map (λ name. name.now) name.entry) (F.made files.old) (F.made files.new)) }
+        × IsDrawn (plain asked.now) (option_map (λ name. name.now) name.entry) (graph_lines drawing) made) }
+    ensures explained { IfErr result (ExplainsDrawing (plain asked.now) (option_map (λ name. name.now) name.entry) (F.made files.old) (F.made files.new)) }
 {
     let Some(name) = name else {
         return Ok(GraphFile::NotAsked);

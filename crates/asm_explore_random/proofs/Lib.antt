@@ -1,1 +1,2 @@
 mod WithoutReport
+mod PlainRuns

@@ -11,8 +11,7 @@ use Rattle.asm_explore_words.specs.declared.fault.Unshown.{Unshown}
 use Rattle.asm_explore_words.specs.declared.fault.Unshown.TheVariants as unshown
 use Rattle.asm_explore_words.specs.declared.settings.RandomSettings.{RandomSettings}
 use Rattle.asm_explore_report.specs.Refusals.{IsQuestionRefused}
-use Rattle.asm_explore_random.specs.RandomReport.{ExplainsRandom, IsRandomAsked}
-use Rattle.asm_explore_random.specs.declared.random_asked.CheckedRandomQuestion.{CheckedRandomQuestion}
+use Rattle.asm_explore_random.specs.RandomReport.{AskedRuns, ExplainsRandom, IsRandomAsked}
 
 module _ (text : List ℕ) (conditions : Conditions) (settings : RandomSettings) where
   pub of_asking : (why : Fault) → ExplainsText (IsQuestionRefused text settings.spec.now conditions) why → ExplainsRandom text conditions settings why
@@ -22,6 +21,6 @@ module _ (text : List ℕ) (conditions : Conditions) (settings : RandomSettings)
   of_asking (fault.Graph name) h = absurd h.1
   of_asking (fault.QuietScript name) h = absurd h.1
 
-  pub of_showing : (why : Unshown) (asked : CheckedRandomQuestion) → IsRandomAsked text conditions settings asked → ExplainsRandom text conditions settings (fault_of_unshown why)
+  pub of_showing : (why : Unshown) (asked : AskedRuns) → IsRandomAsked text conditions settings asked → ExplainsRandom text conditions settings (fault_of_unshown why)
   of_showing unshown.Memory asked is = tt
   of_showing unshown.Unconfirmed asked is = (asked, is)

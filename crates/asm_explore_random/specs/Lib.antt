@@ -1,2 +1,3 @@
 pub mod RandomFacts
 pub mod RandomReport
+pub mod code

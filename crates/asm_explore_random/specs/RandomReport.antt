@@ -1,5 +1,6 @@
 -- Definition. What is asked of random runs, by the bytes of a specification's text and of
 -- conditions, and what is printed of them.
+--     AskedRuns                  a specification, and what is looked for in random runs of it
 --     IsRandomAsked              the specification of the text, and a question with the terms of the
 --                                conditions
 --     random_status finding      1 if a fault is found, and else 0
@@ -12,42 +13,50 @@
 --                                text
 --     ExplainsRandom             why there is no report: a text is refused, memory ran out, or of what
 --                                is asked the run that was found isn't confirmed
-use Rattle.std.specs.Prelude.{◌≡◌, ℕ, List, ◌++◌, codes, decimal, ⊤}
-use Rattle.asm_state.specs.declared.operation.Op.{Op}
-use Rattle.asm_syntax.specs.code.Views.{spec_of}
-use Rattle.asm_syntax.specs.declared.term.Term.{Term}
-use Rattle.asm_check.specs.declared.checked.Checked.{Checked}
+use Rattle.std.specs.Prelude.{◌≡◌, ℕ, List, ◌++◌, Option, codes, decimal, ⊤}
+use Rattle.asm_syntax.specs.SourceTree.{Spec, Term}
 use Rattle.asm_meaning.specs.Declarations.{specification_of}
-use Rattle.asm_explore.specs.Conditions.{term_holds}
-use Rattle.asm_explore.specs.code.MainRule.{IsMainOverLimit}
+use Rattle.asm_explore.specs.Conditions.{condition_holds}
+use Rattle.asm_explore.specs.TooManyOutcomes.{IsCrowded}
 use Rattle.asm_random.specs.RandomResults.{Claims, Counts}
 use Rattle.asm_random.specs.declared.random_result.RandomResult.{RandomResult}
 use Rattle.asm_random.specs.declared.random_result.RandomFinding.{RandomFinding}
 use Rattle.asm_random.specs.declared.random_result.RandomFinding.TheVariants as random
 use Rattle.asm_run.specs.Headline.{IsAccepted}
 use Rattle.asm_explore_report.specs.AskedConditions.{AreAllAsked}
-use Rattle.asm_explore_texts.specs.Conditions.{MayBeConditionOf, text_of, texts_of}
+use Rattle.asm_explore_texts.specs.Conditions.{MayBeAskedOf, text_of, texts_of}
 use Rattle.asm_explore_report.specs.Refusals.{IsQuestionRefused}
 use Rattle.asm_explore_report.specs.FirstLine.{fault_line, first_state_line}
 use Rattle.asm_explore_report.specs.Printed.{IsPrinted}
 use Rattle.asm_explore_report.specs.FaultWords.{BadTells, IsBroken, unwritten_words}
 use Rattle.asm_explore_texts.specs.declared.conditions.Conditions.{Conditions}
-use Rattle.asm_explore_random.specs.declared.random_asked.CheckedRandomQuestion.{CheckedRandomQuestion}
 use Rattle.asm_explore_report.specs.declared.report.Report.{Report}
 use Rattle.asm_explore_words.specs.declared.fault.Fault.{Fault}
 use Rattle.asm_explore_words.specs.declared.fault.Fault.TheVariants as fault
 use Rattle.asm_explore_words.specs.declared.settings.RandomSettings.{RandomSettings}
 use Rattle.asm_explore_random.specs.RandomFacts.{random_facts, shown_in}
 
-pub record IsRandomAsked (text : List ℕ) (conditions : Conditions) (settings : RandomSettings) (asked : CheckedRandomQuestion) : Type 0 where
-  pub accepted : IsAccepted text (spec_of asked.checked.spec)
-  pub always : AreAllAsked (texts_of conditions.always.items) asked.checked asked.question.always
-  pub when_quiet : MayBeConditionOf (spec_of asked.checked.spec) (text_of conditions.when_quiet) asked.question.when_quiet
-  pub turns : asked.question.turns ≡ settings.turns
-  pub steps : asked.question.steps ≡ settings.steps
-  pub runs : asked.question.runs ≡ settings.runs
-  pub seed : asked.question.seed ≡ settings.seed
-  pub outcomes : asked.question.outcomes ≡ settings.outcomes
+pub record AskedRuns : Type 0 where
+  pub spec : Spec
+  pub always : Option Term
+  pub when_quiet : Option Term
+  pub turns : ℕ
+  pub steps : ℕ
+  pub runs : ℕ
+  pub seed : ℕ
+  pub outcomes : ℕ
+
+pub record IsRandomAsked (text : List ℕ) (conditions : Conditions) (settings : RandomSettings) (asked : AskedRuns) : Type 0 where
+  pub accepted : IsAccepted text asked.spec
+  -- the terms of the conditions for each state
+  pub terms : List Term
+  pub always : AreAllAsked (texts_of conditions.always.items) asked.spec asked.always terms
+  pub when_quiet : MayBeAskedOf asked.spec (text_of conditions.when_quiet) asked.when_quiet
+  pub turns : asked.turns ≡ settings.turns
+  pub steps : asked.steps ≡ settings.steps
+  pub runs : asked.runs ≡ settings.runs
+  pub seed : asked.seed ≡ settings.seed
+  pub outcomes : asked.outcomes ≡ settings.outcomes
 
 -- ---- what is printed
 
@@ -57,11 +66,11 @@ random_status (random.Bad number bad) = 1
 random_status random.WrongFirst = 1
 random_status (random.Unwritten unwritten) = 1
 
-abbrev pub RandomTells : Checked → List (Op × Term) → (turns : ℕ) → RandomFinding → (words : List ℕ) → Type 0
-RandomTells checked links turns random.Nothing words = ⊤
-RandomTells checked links turns (random.Bad number bad) words = BadTells checked links turns bad words
-RandomTells checked links turns random.WrongFirst words = IsBroken checked links (specification_of (spec_of checked.spec)).initial words
-RandomTells checked links turns (random.Unwritten unwritten) words = words ≡ unwritten_words
+abbrev pub RandomTells : Spec → List Term → (turns : ℕ) → RandomFinding → (words : List ℕ) → Type 0
+RandomTells s terms turns random.Nothing words = ⊤
+RandomTells s terms turns (random.Bad number bad) words = BadTells s terms turns bad words
+RandomTells s terms turns random.WrongFirst words = IsBroken s terms (specification_of s).initial words
+RandomTells s terms turns (random.Unwritten unwritten) words = words ≡ unwritten_words
 
 -- of `runs` runs that were made, of at most `steps` steps
 abbrev pub random_line : (runs steps : ℕ) → RandomFinding → (words : List ℕ) → List ℕ
@@ -71,33 +80,33 @@ random_line runs steps random.WrongFirst words = first_state_line words
 random_line runs steps (random.Unwritten unwritten) words = fault_line unwritten.fault unwritten.step words
 
 module _ (text : List ℕ) (conditions : Conditions) (settings : RandomSettings) where
-  pub record IsRandomReport (asked : CheckedRandomQuestion) (links : List (Op × Term)) (answer : RandomResult) (printed : List ℕ) : Type 0 where
+  pub record IsRandomReport (asked : AskedRuns) (terms : List Term) (answer : RandomResult) (printed : List ℕ) : Type 0 where
     pub words : List ℕ
-    pub tell : RandomTells asked.checked links asked.question.turns answer.finding words
+    pub tell : RandomTells asked.spec terms asked.turns answer.finding words
     pub are_printed :
-        IsPrinted text asked.question.turns settings.trace (random_line answer.runs asked.question.steps answer.finding words) (random_facts conditions settings answer)
+        IsPrinted text asked.turns settings.trace (random_line answer.runs asked.steps answer.finding words) (random_facts conditions settings answer)
         (shown_in answer.finding) printed
 
   pub record IsRandomReported (report : Report) : Type 0 where
-    pub asked : CheckedRandomQuestion
+    pub asked : AskedRuns
     pub is_asked : IsRandomAsked text conditions settings asked
     pub answer : RandomResult
     -- what the finding says of the runs of the specification with this text
     pub claims :
-        let q = asked.question in
-        Claims (specification_of (spec_of asked.checked.spec)) q.turns (IsMainOverLimit asked.checked q.turns q.outcomes) q.steps (term_holds asked.checked q.always) (term_holds asked.checked q.when_quiet) answer.finding
+        Claims (specification_of asked.spec) asked.turns (IsCrowded (specification_of asked.spec) asked.turns asked.outcomes) asked.steps
+        (condition_holds asked.spec asked.always) (condition_holds asked.spec asked.when_quiet) answer.finding
     -- how many runs and steps were made, and that those before it have no fault
     pub counts :
-        let q = asked.question in
-        Counts (specification_of (spec_of asked.checked.spec)) q.turns (IsMainOverLimit asked.checked q.turns q.outcomes) q.steps (term_holds asked.checked q.always) (term_holds asked.checked q.when_quiet) q.runs answer.runs answer.steps answer.finding
+        Counts (specification_of asked.spec) asked.turns (IsCrowded (specification_of asked.spec) asked.turns asked.outcomes) asked.steps
+        (condition_holds asked.spec asked.always) (condition_holds asked.spec asked.when_quiet) asked.runs answer.runs answer.steps answer.finding
     pub status : report.status ≡ random_status answer.finding
-    pub printed : IsRandomReport asked is_asked.always.links answer report.text.items
+    pub printed : IsRandomReport asked is_asked.terms answer report.text.items
 
   -- ---- without a report
 
   abbrev pub ExplainsRandom : Fault → Type 0
   ExplainsRandom (fault.Text refused) = IsQuestionRefused text settings.spec.now conditions refused
   ExplainsRandom fault.Memory = ⊤
-  ExplainsRandom fault.Unconfirmed = (asked : CheckedRandomQuestion) × IsRandomAsked text conditions settings asked
+  ExplainsRandom fault.Unconfirmed = (asked : AskedRuns) × IsRandomAsked text conditions settings asked
   ExplainsRandom (fault.Graph name) = ⊥
   ExplainsRandom (fault.QuietScript name) = ⊥

@@ -4,7 +4,7 @@ ghost use Rattle.asm_syntax.specs.code.Views.{spec_of};
 ghost use Rattle.asm_run.specs.Headline.{IsAccepted};
 ghost use Rattle.asm_explore_report.specs.Refusals.{IsQuestionRefused};
 ghost use Rattle.asm_explore_texts.specs.RefusedTexts.{ExplainsText, IsAnyRefused};
-ghost use Rattle.asm_explore_random.specs.RandomReport.{IsRandomAsked};
+ghost use Rattle.asm_explore_random.specs.code.CodedRuns.{IsAskedBy};
 
 use asm_check::Checked;
 use asm_explore_report::checked_text::{all_asked, checked};
@@ -28,7 +28,7 @@ pub fn ask_random<'w>(
     conditions: &Conditions<'w>,
     settings: &RandomSettings<'w>,
 ) -> Result<CheckedRandomQuestion, Fault<'w>>
-    ensures found { IfOk result (IsRandomAsked text.now conditions.now settings.now) }
+    ensures found { IfOk result (IsAskedBy text.now conditions.now settings.now) }
     ensures refused { IfErr result (ExplainsText (IsQuestionRefused text.now settings.now.spec.now conditions.now)) }
 {
     let checked = checked(alloc, text, settings.spec)?;
@@ -56,7 +56,7 @@ fn question_of<'w>(
     settings: &RandomSettings<'w>,
 ) -> Result<RandomQuestion, Fault<'w>>
     ensures found { IfOk result (λ question. (text : List ℕ) → IsAccepted text (spec_of checked.now.spec)
-        → IsRandomAsked text conditions.now settings.now (record { checked = checked.now; question = question })) }
+        → IsAskedBy text conditions.now settings.now (record { checked = checked.now; question = question })) }
     ensures refused { IfErr result (ExplainsText (IsAnyRefused (spec_of checked.now.spec) conditions.now)) }
 {
     let turns = turns_of(settings);

@@ -4,8 +4,9 @@ ghost use Rattle.asm_state.specs.declared.operation.Op.{Op};
 ghost use Rattle.asm_syntax.specs.code.Views.{spec_of};
 ghost use Rattle.asm_syntax.specs.declared.term.Term.{Term as Code};
 ghost use Rattle.asm_run.specs.Headline.{IsAccepted};
-ghost use Rattle.asm_explore_texts.specs.Conditions.{IsJoined};
-ghost use Rattle.asm_explore_random.specs.RandomReport.{ExplainsRandom, IsRandomAsked, IsRandomReport, IsRandomReported, RandomTells, random_line, random_status};
+ghost use Rattle.asm_explore_texts.specs.code.CodedConditions.{IsJoined, terms_in};
+ghost use Rattle.asm_explore_random.specs.code.CodedRuns.{IsAskedBy, plain};
+ghost use Rattle.asm_explore_random.specs.RandomReport.{ExplainsRandom, IsRandomReport, IsRandomReported, RandomTells, random_line, random_status};
 
 use crate::random_asked::{CheckedRandomQuestion, ask_random};
 use crate::random_facts::{random_facts, shown_run};
@@ -40,7 +41,7 @@ fn words_of<R: Threads + Sync>(
     finding: &RandomFinding,
 ) -> Result<Vec<u8>, Unshown>
     ensures { (links : List (Op × Code)) → IsJoined links subject.now.always.now → IsAccepted text.now (spec_of subject.now.checked.now.spec) →
-        IfOk result (λ words. RandomTells subject.now.checked.now links subject.now.turns finding.now words.items) }
+        IfOk result (λ words. RandomTells (spec_of subject.now.checked.now.spec) (terms_in links) subject.now.turns finding.now words.items) }
 {
     match finding {
         RandomFinding::Nothing => Ok(Vec::new(alloc)),
@@ -85,7 +86,7 @@ fn printed_of<R: Threads + Sync>(
 ) -> Result<Vec<u8>, Unshown>
     requires accepted { IsAccepted text.now (spec_of asked.now.checked.spec) }
     ensures { (links : List (Op × Code)) → IsJoined links asked.now.question.always →
-        IfOk result (λ whole. IsRandomReport text.now conditions.now settings.now asked.now links answer.now whole.items) }
+        IfOk result (λ whole. IsRandomReport text.now conditions.now settings.now (plain asked.now) (terms_in links) answer.now whole.items) }
 {
     let finding = &answer.finding;
     let subject = Subject {
@@ -120,7 +121,7 @@ fn reported<'w, R: Threads + Sync, W: Watch<RandomProgress>>(
     settings: &RandomSettings<'w>,
     watch: &mut W,
 ) -> Result<Report, Fault<'w>>
-    requires asked { IsRandomAsked text.now conditions.now settings.now asked.now }
+    requires asked { IsAskedBy text.now conditions.now settings.now asked.now }
     ensures reported { IfOk result (IsRandomReported text.now conditions.now settings.now) }
     ensures explained { IfErr result (ExplainsRandom text.now conditions.now settings.now) }
 {

@@ -22,7 +22,7 @@ use Rattle.asm_meaning.specs.TermCases.{TermCases, chain_value}
 use Rattle.asm_meaning.specs.code.TreeWeights.{link_of}
 use Rattle.asm_meaning.specs.Value.{holds, is_true, value}
 use Rattle.asm_meaning.specs.code.TermValues.{condition}
-use Rattle.asm_explore_texts.specs.Conditions.{AreAnds, IsJoined}
+use Rattle.asm_explore_texts.specs.code.CodedConditions.{AreAnds, IsJoined}
 
 both_hold : (v w : Value) → is_true (op And v w) ≡ is_true v && is_true w
 both_hold (value.Truth true) (value.Truth q) = refl

@@ -1,4 +1,5 @@
 mod AndLinks
+mod AskedTerms
 mod BareViews
 mod BetweenLines
 mod ConditionLines

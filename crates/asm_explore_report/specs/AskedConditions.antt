@@ -1,19 +1,13 @@
 -- Definition. The conditions that are asked of a specification, by the bytes of their texts.
---     AreAllAsked asked checked t     the term is true just when each of the conditions with these
---                                     texts is
+--     AreAllAsked asked spec t terms     the texts spell these terms, and t is true just when each
+--                                        of them is
 use Rattle.std.specs.Prelude.{◌≡◌, ℕ, List, Option, Some}
 use Rattle.std.specs.List.{list_all}
 use Rattle.asm_state.specs.Location.{State}
-use Rattle.asm_state.specs.declared.operation.Op.{Op}
-use Rattle.asm_syntax.specs.code.Views.{spec_of}
-use Rattle.asm_syntax.specs.declared.term.Term.{Term}
-use Rattle.asm_check.specs.declared.checked.Checked.{Checked}
-use Rattle.asm_explore.specs.Conditions.{term_holds}
-use Rattle.asm_explore_texts.specs.Conditions.{AreConditionsOf, IsJoined}
+use Rattle.asm_syntax.specs.SourceTree.{Spec, Term}
+use Rattle.asm_explore.specs.Conditions.{condition_holds}
+use Rattle.asm_explore_texts.specs.Conditions.{AreAskedOf}
 
-pub record AreAllAsked (asked : List (List ℕ)) (checked : Checked) (t : Option Term) : Type 0 where
-  pub links : List (Op × Term)
-  pub each : AreConditionsOf (spec_of checked.spec) asked links
-  pub joined : IsJoined links t
-  -- all of them hold just when the one that is asked holds
-  pub all : (A : State) → term_holds checked t A ≡ list_all (λ link. term_holds checked (Some link.1) A) links
+pub record AreAllAsked (asked : List (List ℕ)) (spec : Spec) (t : Option Term) (terms : List Term) : Type 0 where
+  pub each : AreAskedOf spec asked terms
+  pub all : (A : State) → condition_holds spec t A ≡ list_all (λ one. condition_holds spec (Some one) A) terms

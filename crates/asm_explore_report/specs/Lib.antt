@@ -11,3 +11,4 @@ pub mod Refusals
 pub mod RunEnds
 pub mod ShownRuns
 pub mod TraceLines
+pub mod code

@@ -2,14 +2,13 @@
 ghost use Rattle.std.specs.Prelude.{◌≡◌, List, Option, Some, length, IfOk, IfSome};
 ghost use Rattle.asm_state.specs.Signature.{count_of, state_of};
 ghost use Rattle.asm_state.specs.declared.operation.Op.{Op};
-ghost use Rattle.asm_syntax.specs.code.Views.{spec_of};
+ghost use Rattle.asm_syntax.specs.code.Views.{spec_of, term_of};
 ghost use Rattle.asm_syntax.specs.declared.term.Term.{Term as Code};
 ghost use Rattle.asm_check.specs.Shapes.{shape_of};
 ghost use Rattle.asm_meaning.specs.Value.{is_true};
-ghost use Rattle.asm_explore_texts.specs.Conditions.{IsJoined};
+ghost use Rattle.asm_explore_texts.specs.code.CodedConditions.{IsJoined, terms_in};
 ghost use Rattle.asm_explore_report.specs.FaultWords.{IsBroken, broken_words, value_in};
 
-use asm_by_code::by_code::value_by_code;
 use asm_check::Checked;
 use asm_explore_texts::conditions::parts;
 use asm_meaning::View;
@@ -17,6 +16,7 @@ use asm_run::locations::push_value;
 use asm_state::state::State;
 use asm_state::value::Value;
 use asm_state::word::Word;
+use asm_step::value_by_code;
 use asm_syntax::term::Term;
 use asm_updates::summary::Summary;
 use std::alloc::{AllocError, Global};
@@ -39,7 +39,7 @@ fn value_of(
     term: &Term,
 ) -> Result<Word, AllocError>
     requires { length state.now ≡ count_of (shape_of (spec_of checked.now.spec)) }
-    ensures { IfOk result (λ v. v ≡ value_in checked.now term.now (state_of (shape_of (spec_of checked.now.spec)) state.now)) }
+    ensures { IfOk result (λ v. v ≡ value_in (spec_of checked.now.spec) (term_of term.now) (state_of (shape_of (spec_of checked.now.spec)) state.now)) }
 {
     let signature = checked.signature();
     let nothing = Summary::new(alloc, signature.count());
@@ -55,7 +55,7 @@ fn words_for(
     number: usize,
     value: Word,
 ) -> Result<Vec<u8>, AllocError>
-    ensures { IfOk result (λ words. words.items ≡ broken_words checked.now number value) }
+    ensures { IfOk result (λ words. words.items ≡ broken_words (spec_of checked.now.spec) number value) }
 {
     let mut words = format!(in alloc; "condition {number} is ")?.into_bytes();
     push_value(&mut words, checked, value)?;
@@ -72,7 +72,7 @@ pub(crate) fn broken_in(
 ) -> Result<Option<Vec<u8>>, AllocError>
     requires { length state.now ≡ count_of (shape_of (spec_of checked.now.spec)) }
     ensures { (links : List (Op × Code)) → IsJoined links always.now →
-        IfOk result (λ found. IfSome found (λ words. IsBroken checked.now links (state_of (shape_of (spec_of checked.now.spec)) state.now) words.items)) }
+        IfOk result (λ found. IfSome found (λ words. IsBroken (spec_of checked.now.spec) (terms_in links) (state_of (shape_of (spec_of checked.now.spec)) state.now) words.items)) }
 {
     let links = parts(always);
     for k in 0..links.len() {

@@ -2,7 +2,7 @@
 ghost use Rattle.std.specs.Prelude.{IfErr, IfOk};
 ghost use Rattle.asm_syntax.specs.code.Views.{spec_of};
 ghost use Rattle.asm_run.specs.Headline.{IsAccepted};
-ghost use Rattle.asm_explore_report.specs.AskedConditions.{AreAllAsked};
+ghost use Rattle.asm_explore_report.specs.code.JoinedConditions.{AreAllJoined};
 ghost use Rattle.asm_explore_report.specs.Refusals.{IsSpecificationError, IsSpecificationRefused};
 ghost use Rattle.asm_explore_texts.specs.Conditions.{texts_of};
 ghost use Rattle.asm_explore_texts.specs.RefusedTexts.{ExplainsText, IsOneRefused};
@@ -65,7 +65,7 @@ pub fn all_asked<'w>(
     checked: &Checked,
     conditions: &[Condition<'w>],
 ) -> Result<Option<Term>, Fault<'w>>
-    ensures found { IfOk result (AreAllAsked (texts_of conditions.now) checked.now) }
+    ensures found { IfOk result (AreAllJoined (texts_of conditions.now) checked.now) }
     ensures refused { IfErr result (ExplainsText (IsOneRefused (spec_of checked.now.spec) conditions.now)) }
 {
     joined_law(checked);

@@ -2,9 +2,9 @@
 ghost use Rattle.std.specs.Prelude.{◌≡◌, ◌∷◌, [], ◌⊎◌, ◌<◌, ◌≤◌, ◌++◌, codes, length, IfErr, IfNone, IfOk, IfSome, OnOk};
 ghost use Rattle.std.specs.String.{string_bytes};
 ghost use Rattle.asm_meaning.specs.Scripts.{IsUnrepeated};
-ghost use Rattle.asm_reader.specs.code.ExactLines.{exactly};
+ghost use Rattle.asm_reader.specs.ExactLines.{exactly};
 ghost use Rattle.asm_reader.specs.ScriptText.{IsScript, max_script};
-ghost use Rattle.asm_explore.specs.code.WrittenScripts.{AreSteps, IsTextOf, IsTextRefusal, line_said, line_text, lines_text, numbers_in, numbers_of_line};
+ghost use Rattle.asm_explore.specs.WrittenScripts.{AreSteps, IsTextOf, IsTextRefusal, line_said, line_text, lines_text, numbers_in, numbers_of_line};
 ghost use Rattle.asm_explore_report.specs.Comments.{comments as comments_of, lines_of};
 ghost use Rattle.asm_explore_report.specs.Commented.{HasNoText, IsCommentedText, commented, entry_text, said_by, script_alone, without_script};
 

@@ -15,19 +15,20 @@ ghost use Rattle.asm_reader.specs.ScriptText.{IsScript};
 ghost use Rattle.asm_meaning.specs.Declarations.{specification_of};
 ghost use Rattle.asm_explore.specs.Search.{steps_to};
 ghost use Rattle.asm_run.specs.Headline.{IsAccepted};
-ghost use Rattle.asm_explore_texts.specs.Conditions.{IsJoined};
+ghost use Rattle.asm_explore_texts.specs.code.CodedConditions.{IsJoined, terms_in};
 ghost use Rattle.asm_meaning.specs.Run.{IsAfter};
 ghost use Rattle.asm_explore_report.specs.FaultWords.{BadTells, IsBroken};
 
 use crate::broken_condition::broken_in;
 use crate::confirm_run::end_words;
-use crate::replay::state_after;
 use crate::shown_run::run_of;
 use asm_check::Checked;
 use asm_explore::{BadRun, Fault as StepFault};
 use asm_explore_words::fault::Unshown;
 use asm_reader::{one_script, read_script};
+use asm_resolve::main_rule::resolve_main;
 use asm_state::state::State;
+use asm_step::{ResolvedSpecification, state_after};
 use asm_syntax::InputError;
 use asm_syntax::term::Term;
 use std::alloc::Global;
@@ -49,7 +50,7 @@ pub struct Subject<'s> {
 fn words_in(alloc: Global, subject: &Subject<'_>, state: &State) -> Result<Vec<u8>, Unshown>
     requires { length state.now ≡ count_of (shape_of (spec_of subject.now.checked.now.spec)) }
     ensures { (links : List (Op × Code)) → IsJoined links subject.now.always.now →
-        IfOk result (λ words. IsBroken subject.now.checked.now links (state_of (shape_of (spec_of subject.now.checked.now.spec)) state.now) words.items) }
+        IfOk result (λ words. IsBroken (spec_of subject.now.checked.now.spec) (terms_in links) (state_of (shape_of (spec_of subject.now.checked.now.spec)) state.now) words.items) }
 {
     match broken_in(alloc, subject.checked, subject.always, state)? {
         Some(words) => Ok(words),
@@ -72,7 +73,15 @@ fn last_state(alloc: Global, subject: &Subject<'_>, bad: &BadRun) -> Result<Stat
         Err(InputError::Memory) => return Err(Unshown::Memory),
         Err(InputError::Named(_)) => return Err(Unshown::Unconfirmed),
     };
-    match state_after(alloc, subject.checked, subject.turns, &script, steps)? {
+    let code = resolve_main(alloc, subject.checked)?;
+    let resolved = ResolvedSpecification {
+        checked: subject.checked,
+        code: &code,
+        turns: subject.turns,
+    };
+    let last = state_after(alloc, &resolved, &script, steps);
+    drop(code);
+    match last? {
         Some(state) => Ok(state),
         None => Err(Unshown::Unconfirmed),
     }
@@ -81,7 +90,7 @@ fn last_state(alloc: Global, subject: &Subject<'_>, bad: &BadRun) -> Result<Stat
 /// The words for a first state in which a condition isn't true.
 pub fn first_words(alloc: Global, subject: &Subject<'_>) -> Result<Vec<u8>, Unshown>
     ensures { (links : List (Op × Code)) → IsJoined links subject.now.always.now →
-        IfOk result (λ words. IsBroken subject.now.checked.now links (specification_of (spec_of subject.now.checked.now.spec)).initial words.items) }
+        IfOk result (λ words. IsBroken (spec_of subject.now.checked.now.spec) (terms_in links) (specification_of (spec_of subject.now.checked.now.spec)).initial words.items) }
 {
     let first = State::initial(alloc, subject.checked.signature())?;
     let words = words_in(alloc, subject, &first)?;
@@ -98,7 +107,7 @@ pub fn bad_words<R: Threads + Sync>(
     bad: &BadRun,
 ) -> Result<Vec<u8>, Unshown>
     ensures { (links : List (Op × Code)) → IsJoined links subject.now.always.now → IsAccepted text.now (spec_of subject.now.checked.now.spec) →
-        IfOk result (λ words. BadTells subject.now.checked.now links subject.now.turns bad.now words.items) }
+        IfOk result (λ words. BadTells (spec_of subject.now.checked.now.spec) (terms_in links) subject.now.turns bad.now words.items) }
 {
     let end = end_words(rt, alloc, text, subject.checked, subject.turns, bad)?;
     match bad.fault {

@@ -1,11 +1,15 @@
-//! Law. A law of joined conditions.
-ghost use Rattle.std.specs.Prelude.{◌≡◌, List, Option, Some};
+//! Laws of joined conditions.
+ghost use Rattle.std.specs.Prelude.{◌≡◌, ℕ, List, Option, Some};
 ghost use Rattle.std.specs.List.{list_all};
 ghost use Rattle.asm_state.specs.Location.{State};
 ghost use Rattle.asm_state.specs.declared.operation.Op.{Op};
+ghost use Rattle.asm_syntax.specs.code.Views.{spec_of, test_of};
 ghost use Rattle.asm_syntax.specs.declared.term.Term.{Term};
-ghost use Rattle.asm_explore.specs.Conditions.{term_holds};
-ghost use Rattle.asm_explore_texts.specs.Conditions.{AreAnds, IsJoined};
+ghost use Rattle.asm_check.specs.declared.checked.Checked.{Checked};
+ghost use Rattle.asm_explore.specs.code.ResolvedConditions.{term_holds};
+ghost use Rattle.asm_explore_texts.specs.code.CodedConditions.{AreAnds, IsJoined, terms_in};
+ghost use Rattle.asm_explore_report.specs.AskedConditions.{AreAllAsked};
+ghost use Rattle.asm_explore_report.specs.code.JoinedConditions.{AreAllJoined};
 
 use asm_check::Checked;
 use asm_meaning::laws::{declared_ranks, plain_terms, valued_by_cases};
@@ -19,3 +23,9 @@ pub fn joined_law(checked: &Checked)
     declared_ranks();
     plain_terms();
 }
+
+/// The term that joins conditions is true just when each of the terms is that their texts spell.
+pub fn all_asked_law()
+    ensures { (texts : List (List ℕ)) (checked : Checked) (t : Option Term) (joined : AreAllJoined texts checked t) →
+        AreAllAsked texts (spec_of checked.spec) (test_of t) (terms_in joined.links) }
+{}

@@ -14,7 +14,6 @@ pub mod fault_words;
 pub mod first_line;
 pub mod laws;
 pub mod printed;
-mod replay;
 pub mod report;
 pub mod shown_run;
 mod trace_lines;

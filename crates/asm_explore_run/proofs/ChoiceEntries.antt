@@ -16,7 +16,7 @@ use Rattle.asm_explore.specs.declared.outcomes.listed_outcome.Choice.{Choice}
 use Rattle.asm_explore.specs.ChoicePoints.{Asking}
 use Rattle.asm_explore.specs.RunChoices.{asked_said, choices_made, lines_forward, lines_from}
 use Rattle.asm_explore.specs.code.AskedPieces.{all_said}
-use Rattle.asm_explore.specs.code.ScriptTo.{lines_for}
+use Rattle.asm_explore.specs.ChoiceLines.{lines_for}
 use Rattle.asm_explore_report.specs.declared.commented.Entry.{Entry}
 use Rattle.asm_explore_run.specs.ChoicesText.{AreEntriesOf, IsEntryOf, and_more, candidates_text, greatest_listed, listed}
 use Rattle.asm_reader.specs.ScriptLines.{Line}

@@ -3,7 +3,7 @@
 --     too_many      more lines than a script can have
 use Rattle.std.proofs.Common.{◌≡◌, ℕ, suc, refl, ap, ◌+◌, ◌<◌, ◌≤◌, List, [], ◌∷◌, ◌++◌, length, codes, decimal, inr, arith, length-append}
 use Rattle.asm_reader.specs.ScriptLines.{Line}
-use Rattle.asm_explore.specs.code.WrittenScripts.{line_text, lines_said, lines_text, path_text}
+use Rattle.asm_explore.specs.WrittenScripts.{line_text, lines_said, lines_text, path_text}
 use Rattle.asm_explore.specs.declared.scripts.script_line.ScriptLine.{ScriptLine}
 use Rattle.asm_explore_report.specs.Comments.{comments}
 use Rattle.asm_explore_report.specs.Commented.{HasNoText}

@@ -9,7 +9,7 @@ use Rattle.std.proofs.Common.{◌≡◌, ◌∙◌, ◌+◌, ◌<◌, ℕ, suc, 
 use Rattle.std.specs.Str.Lines.{strip_carriage_return}
 use Rattle.std.proofs.lemmas.List.{length-map, length-take-le, map-append, take_more}
 use Rattle.asm_reader.specs.ScriptLines.{SaidLine}
-use Rattle.asm_explore.specs.code.WrittenScripts.{line_said, lines_said}
+use Rattle.asm_explore.specs.WrittenScripts.{line_said, lines_said}
 use Rattle.asm_explore.specs.declared.scripts.script_line.ScriptLine.{ScriptLine}
 use Rattle.asm_explore_run.specs.UnmetLines.{is_met, unmet_line}
 use Rattle.asm_explore_report.specs.Comments.{lines_of}

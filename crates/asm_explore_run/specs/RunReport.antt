@@ -17,7 +17,7 @@
 --                                     the run of texts that aren't is refused
 use Rattle.std.specs.Prelude.{◌≡◌, ◌⊎◌, ℕ, List, [], ◌∷◌, ⊤}
 use Rattle.asm_syntax.specs.SourceTree.{Spec}
-use Rattle.asm_reader.specs.code.ExactLines.{exactly}
+use Rattle.asm_reader.specs.ExactLines.{exactly}
 use Rattle.asm_reader.specs.ScriptLines.{Line, Script}
 use Rattle.asm_reader.specs.ScriptText.{IsScript}
 use Rattle.asm_meaning.specs.Scripts.{IsUnrepeated}
@@ -31,7 +31,6 @@ use Rattle.asm_run.specs.Written.{names_in}
 use Rattle.asm_run.specs.Trace.{TraceNames}
 use Rattle.asm_run.specs.declared.end.End as shown
 use Rattle.asm_clash.specs.ClashOfRun.{EndsSo}
-use Rattle.asm_clash.specs.code.ReadByCode.{AreReadByCode}
 use Rattle.asm_clash.specs.declared.assignment.Assignment.{Assignment}
 use Rattle.asm_clash.specs.declared.clash.ClashOfRun.{ClashOfRun}
 use Rattle.asm_clash.specs.declared.clash.ClashOfRun.TheVariants as clash
@@ -109,7 +108,6 @@ module _ (text script_text : List ℕ) (settings : RunSettings) (report : Report
     pub spelled : IsScript script_text script
     pub clash : ClashOfRun
     pub ends : EndsSo tree settings.turns script greatest_shown (run_asked tree settings script) clash
-    pub reads : AreReadByCode tree settings.turns script greatest_shown (run_asked tree settings script) clash
     pub end : shown.End
     pub answered : IsReturned (run_asked tree settings script).end end
     pub first : List ℕ

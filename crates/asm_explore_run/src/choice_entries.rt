@@ -6,7 +6,7 @@ ghost use Rattle.asm_run.specs.Written.{names_in};
 ghost use Rattle.asm_explore.specs.ChoicePoints.{Asking};
 ghost use Rattle.asm_explore.specs.RunChoices.{asked_in, asked_said, choices_in, choices_made, lines_forward};
 ghost use Rattle.asm_explore.specs.code.AskedPieces.{all_said};
-ghost use Rattle.asm_explore.specs.code.ScriptTo.{lines_for};
+ghost use Rattle.asm_explore.specs.ChoiceLines.{lines_for};
 ghost use Rattle.asm_explore_report.specs.Commented.{said_by};
 ghost use Rattle.asm_explore_run.specs.ChoicesText.{AreEntriesOf, IsEntryOf};
 

@@ -8,7 +8,6 @@ ghost use Rattle.asm_run.specs.Headline.{IsAccepted, IsReturned};
 ghost use Rattle.asm_explore_report.specs.EndWords.{IsRunLine};
 ghost use Rattle.asm_explore_texts.specs.RefusedTexts.{ExplainsText, IsScriptRefused};
 ghost use Rattle.asm_clash.specs.ClashOfRun.{EndsSo};
-ghost use Rattle.asm_clash.specs.code.ReadByCode.{AreReadByCode};
 ghost use Rattle.asm_run.specs.Written.{names_in};
 ghost use Rattle.asm_explore_run.specs.ClashText.{IsClashText, greatest_shown};
 ghost use Rattle.asm_explore_run.specs.RunReport.{ExplainsRun, IsClashReported, assignments_in, count_in, run_asked};
@@ -68,8 +67,7 @@ fn clash_of<'w>(
 ) -> Result<ClashOfRun, Fault<'w>>
     ensures found { let tree = spec_of checked.now.spec in
         IfOk result (λ clash. (script : Script) × IsScript script_text.now script ×
-        EndsSo tree settings.now.turns script greatest_shown (run_asked tree settings.now script) clash ×
-        AreReadByCode tree settings.now.turns script greatest_shown (run_asked tree settings.now script) clash) }
+        EndsSo tree settings.now.turns script greatest_shown (run_asked tree settings.now script) clash) }
     ensures refused { IfErr result (ExplainsText (IsScriptRefused script_text.now settings.now)) }
 {
     let script = script_given(alloc, script_text, settings)?;

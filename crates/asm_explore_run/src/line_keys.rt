@@ -2,7 +2,7 @@
 ghost use Rattle.std.specs.Prelude.{◌≡◌, ◌↔◌, ◌∷◌, cond, false, true, IfOk, IsTrue, OnOk};
 ghost use Rattle.asm_reader.specs.ScriptLines.{SaidLine};
 ghost use Rattle.asm_reader.specs.ScriptText.{line_said};
-ghost use Rattle.asm_explore.specs.code.WrittenScripts.{line_said as choice_said};
+ghost use Rattle.asm_explore.specs.WrittenScripts.{line_said as choice_said};
 ghost use Rattle.asm_explore_run.specs.code.LineKeys.{has_line, key_said, line_count, meets};
 
 use asm_explore::ScriptLine;

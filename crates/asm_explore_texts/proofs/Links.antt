@@ -9,7 +9,8 @@ use Rattle.asm_syntax.specs.SourceTree.{Spec}
 use Rattle.asm_syntax.specs.declared.term.Literal.TheVariants.{Truth}
 use Rattle.asm_syntax.specs.declared.term.Term.{Term}
 use Rattle.asm_syntax.specs.declared.term.Term.TheVariants.{Chain, Constant}
-use Rattle.asm_explore_texts.specs.Conditions.{AreConditionsOf, IsConditionOf, IsJoined, texts_of}
+use Rattle.asm_explore_texts.specs.Conditions.{texts_of}
+use Rattle.asm_explore_texts.specs.code.CodedConditions.{AreConditionsOf, IsConditionOf, IsJoined}
 use Rattle.asm_explore_texts.specs.declared.conditions.Condition.{Condition}
 
 pub joined_is : (first : Box Term Global) (links : Vec (Op × Term) Global) → links.items ≢ [] → first.value ≡ Constant (Truth true)

@@ -1,26 +1,14 @@
 -- Definition. Conditions on states, from their texts.
 --     IsAskedOf spec asked t          the text spells this term alone, which has no fault over the
 --                                     specification
---     IsConditionOf spec asked t      the same of the code's term
 --     IsConditionError spec asked e   what is wrong with a text that is no condition, and where
 --     ExplainsCondition spec asked e  the same, if a refusal names it
---     AreConditionsOf                 each of several texts is that of a condition, whose term is a
---                                     link of a chain of `and`
---     AreAnds links                   each link is an `and`
---     MayBeConditionOf                the condition of a text, if there is one
---     IsJoined links t                the chain of these links after `true`, or no term if there
---                                     are none
-use Rattle.std.specs.Prelude.{◌≡◌, ℕ, true, List, [], ◌∷◌, map, Option, Some, None, ⊤}
-use Rattle.std.proofs.Common.{Vec, Box, Global}
-use Rattle.asm_state.specs.declared.operation.Op.{Op}
-use Rattle.asm_state.specs.declared.operation.Op.TheVariants.{And}
+--     AreAskedOf spec texts terms     each of several texts spells the term with its number
+--     MayBeAskedOf spec text t        the same of a text, if there is one
+use Rattle.std.specs.Prelude.{◌≡◌, ℕ, List, [], ◌∷◌, map, Option, Some, None, ⊤}
 use Rattle.asm_syntax.specs.SourceTree as source
-use Rattle.asm_syntax.specs.code.Views.{term_of}
 use Rattle.asm_syntax.specs.declared.input_error.InputError.{InputError}
 use Rattle.asm_syntax.specs.declared.input_error.InputError.TheVariants.{Memory, Named}
-use Rattle.asm_syntax.specs.declared.term.Literal.TheVariants.{Truth}
-use Rattle.asm_syntax.specs.declared.term.Term.{Term}
-use Rattle.asm_syntax.specs.declared.term.Term.TheVariants.{Chain, Constant}
 use Rattle.asm_reader.specs.Refusals.{refusal_offset}
 use Rattle.asm_reader.specs.TermText.{IsTermText, IsTermRefusal}
 use Rattle.asm_check.specs.Errors.{number_of}
@@ -33,9 +21,6 @@ use Rattle.asm_explore_texts.specs.declared.conditions.Condition.{Condition}
 pub record IsAskedOf (spec : source.Spec) (asked : List ℕ) (t : source.Term) : Type 0 where
   pub spelled : IsTermText asked t
   pub well_formed : IsWellFormedTerm spec t
-
-abbrev pub IsConditionOf : source.Spec → (asked : List ℕ) → Term → Type 0
-IsConditionOf spec asked t = IsAskedOf spec asked (term_of t)
 
 -- ---- refusals
 
@@ -60,25 +45,16 @@ ExplainsCondition spec asked (Named e) = IsConditionError spec asked e
 
 -- ---- several conditions
 
-abbrev pub AreConditionsOf : source.Spec → List (List ℕ) → List (Op × Term) → Type 0
-AreConditionsOf spec [] [] = ⊤
-AreConditionsOf spec [] (link ∷ links) = ⊥
-AreConditionsOf spec (asked ∷ more) [] = ⊥
-AreConditionsOf spec (asked ∷ more) (link ∷ links) = (link.0 ≡ And) × IsConditionOf spec asked link.1 × AreConditionsOf spec more links
+abbrev pub AreAskedOf : source.Spec → List (List ℕ) → List source.Term → Type 0
+AreAskedOf spec [] [] = ⊤
+AreAskedOf spec [] (t ∷ terms) = ⊥
+AreAskedOf spec (asked ∷ more) [] = ⊥
+AreAskedOf spec (asked ∷ more) (t ∷ terms) = IsAskedOf spec asked t × AreAskedOf spec more terms
 
-abbrev pub AreAnds : List (Op × Term) → Type 0
-AreAnds [] = ⊤
-AreAnds (link ∷ links) = (link.0 ≡ And) × AreAnds links
-
-abbrev pub MayBeConditionOf : source.Spec → Option (List ℕ) → Option Term → Type 0
-MayBeConditionOf spec None t = t ≡ None
-MayBeConditionOf spec (Some asked) None = ⊥
-MayBeConditionOf spec (Some asked) (Some t) = IsConditionOf spec asked t
-
-abbrev pub IsJoined : List (Op × Term) → Option Term → Type 0
-IsJoined [] t = t ≡ None
-IsJoined (link ∷ links) t = (first : Box Term Global) × (rest : Vec (Op × Term) Global)
-    × (t ≡ Some (Chain first rest)) × (first.value ≡ Constant (Truth true)) × (rest.items ≡ link ∷ links)
+abbrev pub MayBeAskedOf : source.Spec → Option (List ℕ) → Option source.Term → Type 0
+MayBeAskedOf spec None t = t ≡ None
+MayBeAskedOf spec (Some asked) None = ⊥
+MayBeAskedOf spec (Some asked) (Some t) = IsAskedOf spec asked t
 
 -- ---- the texts
 

@@ -1,3 +1,4 @@
 pub mod Conditions
 pub mod Positions
 pub mod RefusedTexts
+pub mod code

@@ -5,7 +5,8 @@ ghost use Rattle.asm_syntax.specs.SourceTree as source;
 ghost use Rattle.asm_syntax.specs.code.Views.{spec_of, term_of};
 ghost use Rattle.asm_reader.specs.TermText.{IsTermText};
 ghost use Rattle.asm_check.specs.TermFaults.{IsWellFormedTerm};
-ghost use Rattle.asm_explore_texts.specs.Conditions.{ExplainsCondition, IsAskedOf, IsConditionOf};
+ghost use Rattle.asm_explore_texts.specs.Conditions.{ExplainsCondition, IsAskedOf};
+ghost use Rattle.asm_explore_texts.specs.code.CodedConditions.{IsConditionOf};
 
 use asm_check::Checked;
 use asm_explore_words::fault::TextError;

@@ -4,7 +4,8 @@ ghost use Rattle.asm_state.specs.declared.operation.Op.{Op as Operation};
 ghost use Rattle.asm_syntax.specs.declared.term.Term.{Term as Code};
 ghost use Rattle.asm_syntax.specs.SourceTree.{Spec};
 ghost use Rattle.asm_syntax.specs.code.Views.{spec_of};
-ghost use Rattle.asm_explore_texts.specs.Conditions.{AreConditionsOf, IsConditionError, IsConditionOf, IsJoined, MayBeConditionOf, text_of, texts_of};
+ghost use Rattle.asm_explore_texts.specs.Conditions.{IsConditionError, text_of, texts_of};
+ghost use Rattle.asm_explore_texts.specs.code.CodedConditions.{AreConditionsOf, IsConditionOf, IsJoined, MayBeConditionOf};
 ghost use Rattle.asm_explore_texts.specs.RefusedTexts.{ExplainsText, IsConditionRefused, IsOneRefused, MayBeRefused};
 
 use crate::condition::{ConditionError, condition_term};

@@ -4,13 +4,14 @@ use Rattle.std.specs.Prelude.{IfNone, IfSome, option_map}
 use Rattle.std.specs.String.{string_bytes}
 use Rattle.asm_explore_words.specs.declared.fault.Fault.TheVariants.{Graph}
 use Rattle.asm_explore_all.specs.AllFacts.{ExplainsDrawing, HasTooMany, IsDrawn, IsGraphText, graph_note}
+use Rattle.asm_explore_all.specs.code.CodedQuestions.{plain}
 use Rattle.asm_explore_all.specs.MadeFiles.{MadeFile, Makes, StopsAt}
 use Rattle.asm_explore_all.proofs.GrowingFiles.{makes_none}
 use Rattle.asm_explore_all.proofs.graph_file.draw.Goals as goal
 
 pub returns-in_default-2-clause-drawn : goal.returns-in_default-2-clause-drawn
 returns-in_default-2-clause-drawn g c =
-    let asked = c.args.asked.now in
+    let asked = plain c.args.asked.now in
     let many = subst (λ o. IfNone o (HasTooMany asked)) c.in_default-2.is c.in_ok-text.ensures.many in (
       [],
       makes_none _,
@@ -19,7 +20,7 @@ returns-in_default-2-clause-drawn g c =
 
 pub returns-in-Ok-clause-drawn : goal.returns-in-Ok-clause-drawn
 returns-in-Ok-clause-drawn g c =
-    let asked = c.args.asked.now in
+    let asked = plain c.args.asked.now in
     let name = c.in-Some.name.now in
     let text = string_bytes c.in-Some-2.text in
     let drawn = subst (λ o. IfSome o (λ dot. IsGraphText asked (string_bytes dot))) c.in-Some-2.is c.in_ok-text.ensures.few in
@@ -31,7 +32,7 @@ returns-in-Ok-clause-drawn g c =
 
 pub returns-clause-explained : goal.returns-clause-explained
 returns-clause-explained g c =
-    let asked = c.args.asked.now in
+    let asked = plain c.args.asked.now in
     let name = c.in-Some.name.now in
     let text = string_bytes c.in-Some-2.text in
     let old = g.F.NewFiles.made c.args.files.now in

@@ -2,7 +2,7 @@ use Rattle.std.proofs.Common.{inl, refl, subst}
 use Rattle.std.proofs.lemmas.Option.{IfSome_then}
 use Rattle.std.proofs.lemmas.Result.{err_from_is_err_and}
 use Rattle.asm_syntax.specs.code.Views.{spec_of}
-use Rattle.asm_explore_report.specs.AskedConditions.{AreAllAsked}
+use Rattle.asm_explore_report.specs.code.JoinedConditions.{AreAllJoined}
 use Rattle.asm_explore_texts.specs.Conditions.{texts_of}
 use Rattle.asm_explore_texts.specs.RefusedTexts.{IsOneRefused, refused_in}
 use Rattle.asm_explore_random.proofs.random_asked.question_of.Goals as goal
@@ -10,7 +10,7 @@ use Rattle.asm_explore_random.proofs.random_asked.question_of.Goals as goal
 pub returns-in-Ok-clause-found : goal.returns-in-Ok-clause-found
 returns-in-Ok-clause-found c = λ text accepted. record {
   accepted = accepted;
-  always = subst (λ cs. AreAllAsked (texts_of cs) c.args.checked.now c.in_ok-always.always) c.as_slice.ensures.value c.in_ok-always.ensures.found;
+  always = subst (λ cs. AreAllJoined (texts_of cs) c.args.checked.now c.in_ok-always.always) c.as_slice.ensures.value c.in_ok-always.ensures.found;
   when_quiet = c.in-Ok.ensures.found;
   turns = c.turns_of-turns.ensures;
   steps = refl;

@@ -1,10 +1,14 @@
 use Rattle.std.proofs.Common.{◌≡◌, ◌∙◌, ◌+◌, ◌∷◌, ◌++◌, suc, take, drop, length, sym, ap, arith}
-use Rattle.std.proofs.lemmas.List.{drop_more, length-take-le, take-append-drop}
+use Rattle.std.proofs.lemmas.List.{drop_more, length-map, length-take-le, map-append, take-append-drop}
 use Rattle.asm_state.specs.Signature.{state_of}
-use Rattle.asm_syntax.specs.code.Views.{spec_of}
+use Rattle.asm_state.specs.declared.operation.Op.{Op}
+use Rattle.asm_syntax.specs.code.Views.{spec_of, term_of}
+use Rattle.asm_syntax.specs.declared.term.Term.{Term}
 use Rattle.asm_check.specs.Shapes.{shape_of}
 use Rattle.asm_meaning.specs.Value.{is_true}
 use Rattle.asm_explore_report.specs.FaultWords.{broken_words, value_in}
+use Rattle.asm_explore_texts.specs.code.CodedConditions.{terms_in}
+use Rattle.asm_explore_report.proofs.AskedTerms.{all_terms}
 use Rattle.asm_explore_report.proofs.broken_condition.broken_in.Goals as goal
 
 pub returns-then-not-is_truth : goal.returns-then-not-is_truth
@@ -15,17 +19,18 @@ returns-then-not-is_truth c links joined =
     let k = c.loop-k.k in
     let link = c.index-links-k.result in
     let front : length (take k items) ≡ k = length-take-le k items (omega (arith, c.loop-k-test.true)) in
-    let value : c.in_ok-value.value ≡ value_in checked link.1 (state_of (shape_of (spec_of checked.spec)) c.args.state.now) =
-    c.in_ok-value.ensures ∙ ap (λ l. value_in checked l.1 (state_of (shape_of (spec_of checked.spec)) c.args.state.now)) (sym c.index-links-k.is) in
-    let words : c.in_ok-words_for.field-0.items ≡ broken_words checked (k + 1) c.in_ok-value.value = c.in_ok-words_for.ensures in
-    let number : k + 1 ≡ suc (length (take k items)) = omega arith in
+    let value : c.in_ok-value.value ≡ value_in (spec_of checked.spec) (term_of link.1) (state_of (shape_of (spec_of checked.spec)) c.args.state.now) =
+    c.in_ok-value.ensures ∙ ap (λ l. value_in (spec_of checked.spec) (term_of l.1) (state_of (shape_of (spec_of checked.spec)) c.args.state.now)) (sym c.index-links-k.is) in
+    let words : c.in_ok-words_for.field-0.items ≡ broken_words (spec_of checked.spec) (k + 1) c.in_ok-value.value = c.in_ok-words_for.ensures in
+    let number : k + 1 ≡ suc (length (terms_in (take k items))) = omega (arith, length-map (take k items) (λ (l : Op × Term). term_of l.1), front) in
+    let split : links ≡ take k items ++ link ∷ drop (k + 1) items =
+    sym same ∙ (sym (take-append-drop k items) ∙ ap (λ t. take k items ++ t) (drop_more items k link c.loop-k-test.true ∙ ap (λ l. l ∷ drop (k + 1) items) (sym c.index-links-k.is))) in
     record {
-      before = take k items;
-      link = link;
-      after = drop (k + 1) items;
-      parts = sym same ∙ (sym (take-append-drop k items) ∙ ap (λ t. take k items ++ t)
-          (drop_more items k link c.loop-k-test.true ∙ ap (λ l. l ∷ drop (k + 1) items) (sym c.index-links-k.is)));
-      held = c.loop-k.invariant;
+      before = terms_in (take k items);
+      one = term_of link.1;
+      after = terms_in (drop (k + 1) items);
+      parts = ap terms_in split ∙ map-append (λ (l : Op × Term). term_of l.1) (take k items) (link ∷ drop (k + 1) items);
+      held = all_terms (λ t. is_true (value_in (spec_of checked.spec) t (state_of (shape_of (spec_of checked.spec)) c.args.state.now))) (take k items) ∙ c.loop-k.invariant;
       broken = sym (ap is_true value) ∙ (sym c.is_truth.ensures ∙ c.if-not-is_truth.true);
-      are = words ∙ (λ i. broken_words checked (number i) (value i));
+      are = words ∙ (λ i. broken_words (spec_of checked.spec) (number i) (value i));
     }

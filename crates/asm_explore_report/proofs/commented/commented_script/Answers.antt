@@ -1,5 +1,5 @@
 use Rattle.std.proofs.Common.{subst}
-use Rattle.asm_reader.specs.code.ExactLines.{exactly}
+use Rattle.asm_reader.specs.ExactLines.{exactly}
 use Rattle.asm_reader.specs.ScriptText.{IsScript}
 use Rattle.asm_explore_report.specs.Comments.{lines_of}
 use Rattle.asm_explore_report.specs.Commented.{said_by}

@@ -2,10 +2,10 @@ use Rattle.std.proofs.Common.{◌≡◌, ◌∙◌, List, IfErr, IfOk, ap, subst
 use Rattle.std.proofs.lemmas.List.{take_all}
 use Rattle.std.specs.String.{string_bytes}
 use Rattle.asm_meaning.specs.Scripts.{IsUnrepeated}
-use Rattle.asm_reader.specs.code.ExactLines.{exactly}
+use Rattle.asm_reader.specs.ExactLines.{exactly}
 use Rattle.asm_reader.specs.ScriptLines.{Line}
 use Rattle.asm_reader.specs.ScriptText.{IsScript}
-use Rattle.asm_explore.specs.code.WrittenScripts.{AreSteps, IsTextOf, IsTextRefusal, lines_said, lines_text, numbers_in}
+use Rattle.asm_explore.specs.WrittenScripts.{AreSteps, IsTextOf, IsTextRefusal, lines_said, lines_text, numbers_in}
 use Rattle.asm_explore_report.specs.Commented.{said_by}
 use Rattle.asm_explore_report.proofs.WholeLines.{written_all}
 use Rattle.asm_explore_report.proofs.commented.lines_alone.Goals as goal

@@ -1,5 +1,5 @@
 use Rattle.std.proofs.Common.{◌≡◌, take}
-use Rattle.asm_explore.specs.code.WrittenScripts.{lines_said}
+use Rattle.asm_explore.specs.WrittenScripts.{lines_said}
 use Rattle.asm_explore_report.specs.Commented.{said_by}
 use Rattle.asm_explore_report.proofs.commented.lines_alone.Given as goal
 

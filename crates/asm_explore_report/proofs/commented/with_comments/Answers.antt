@@ -1,6 +1,6 @@
 use Rattle.std.proofs.Common.{◌≡◌, ◌∷◌, ◌++◌, [], length, take, get_or, ap, subst, arith, ◌∙◌}
 use Rattle.std.proofs.lemmas.Result.{err_from_is_err_and}
-use Rattle.asm_explore.specs.code.WrittenScripts.{IsTextRefusal, line_said, line_text, numbers_of_line}
+use Rattle.asm_explore.specs.WrittenScripts.{IsTextRefusal, line_said, line_text, numbers_of_line}
 use Rattle.asm_explore_report.specs.Comments.{comments, lines_of}
 use Rattle.asm_explore_report.specs.Commented.{entries_text, entry_text}
 use Rattle.asm_explore_report.specs.declared.commented.Entry.{Entry}

@@ -4,7 +4,7 @@ use Rattle.asm_syntax.specs.code.Views.{spec_of}
 use Rattle.asm_run.specs.Written.{names_in}
 use Rattle.asm_explore.specs.RunChoices.{asked_said}
 use Rattle.asm_explore.specs.code.AskedPieces.{all_said}
-use Rattle.asm_explore.specs.code.WrittenScripts.{line_said}
+use Rattle.asm_explore.specs.WrittenScripts.{line_said}
 use Rattle.asm_explore_report.specs.Commented.{said_by}
 use Rattle.asm_explore_report.specs.declared.commented.Entry.{Entry}
 use Rattle.asm_explore_run.specs.ChoicesText.{AreEntriesOf}

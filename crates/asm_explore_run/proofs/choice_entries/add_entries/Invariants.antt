@@ -4,7 +4,7 @@ use Rattle.asm_run.specs.Written.{names_in}
 use Rattle.asm_explore.specs.ChoicePoints.{Asking}
 use Rattle.asm_explore.specs.RunChoices.{choices_made}
 use Rattle.asm_explore.specs.code.AskedPieces.{all_said}
-use Rattle.asm_explore.specs.code.ScriptTo.{lines_for}
+use Rattle.asm_explore.specs.ChoiceLines.{lines_for}
 use Rattle.asm_explore_report.specs.Commented.{said_by}
 use Rattle.asm_explore_run.specs.ChoicesText.{AreEntriesOf}
 use Rattle.asm_explore_run.proofs.choice_entries.add_entries.Given as goal

@@ -3,7 +3,7 @@ use Rattle.asm_syntax.specs.code.Views.{spec_of}
 use Rattle.asm_run.specs.Written.{names_in}
 use Rattle.asm_explore.specs.RunChoices.{choices_made}
 use Rattle.asm_explore.specs.code.AskedPieces.{all_said}
-use Rattle.asm_explore.specs.code.ScriptTo.{lines_for}
+use Rattle.asm_explore.specs.ChoiceLines.{lines_for}
 use Rattle.asm_explore_report.specs.Commented.{said_by}
 use Rattle.asm_explore_run.specs.ChoicesText.{AreEntriesOf}
 use Rattle.asm_explore_run.proofs.ChoiceEntries.{all_more, step_more, steps_asked}

@@ -39,7 +39,6 @@ returns-clause-reported g c =
       spelled = spelled;
       clash = clash;
       ends = made;
-      reads = c.in_ok-clash.ensures.found.3;
       end = c.in_ok-ended.ended.end;
       answered = answered;
       first = text.0;

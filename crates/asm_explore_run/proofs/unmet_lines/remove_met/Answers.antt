@@ -1,7 +1,7 @@
 use Rattle.std.proofs.Common.{◌≤◌, ◌∙◌, ap, arith, cond, false, length, refl}
 use Rattle.std.proofs.lemmas.List.{take_all}
 use Rattle.asm_reader.specs.ScriptLines.{ForStep, ForEvery}
-use Rattle.asm_explore.specs.code.WrittenScripts.{lines_said}
+use Rattle.asm_explore.specs.WrittenScripts.{lines_said}
 use Rattle.asm_explore_run.specs.UnmetLines.{is_met}
 use Rattle.asm_explore_run.specs.code.LineKeys.{has_line}
 use Rattle.asm_explore_run.proofs.KeySets.{none_removed, nothing_in}

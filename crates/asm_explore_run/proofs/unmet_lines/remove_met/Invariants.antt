@@ -1,6 +1,6 @@
 use Rattle.std.proofs.Common.{◌≡◌, cond, false, take}
 use Rattle.asm_reader.specs.ScriptLines.{SaidLine}
-use Rattle.asm_explore.specs.code.WrittenScripts.{lines_said}
+use Rattle.asm_explore.specs.WrittenScripts.{lines_said}
 use Rattle.asm_explore_run.specs.UnmetLines.{is_met}
 use Rattle.asm_explore_run.specs.code.LineKeys.{has_line}
 use Rattle.asm_explore_run.proofs.unmet_lines.remove_met.Given as goal

@@ -1,7 +1,7 @@
 use Rattle.std.proofs.Common.{◌≡◌, ◌∙◌, ap, map, subst, sym, true}
 use Rattle.std.specs.Str.Lines.{strip_carriage_return}
 use Rattle.std.proofs.lemmas.Simd.{map-map}
-use Rattle.asm_explore.specs.code.WrittenScripts.{lines_said}
+use Rattle.asm_explore.specs.WrittenScripts.{lines_said}
 use Rattle.asm_explore_run.specs.UnmetLines.{unmet_from}
 use Rattle.asm_explore_run.specs.code.LineKeys.{have_lines, left_from}
 use Rattle.asm_explore_run.proofs.KeySets.{all_left}

@@ -1,4 +1,4 @@
-use Rattle.asm_explore.specs.code.WrittenScripts.{line_said}
+use Rattle.asm_explore.specs.WrittenScripts.{line_said}
 use Rattle.asm_explore_run.specs.declared.line_keys.LineKeys.{LineKeys}
 use Rattle.asm_explore_run.proofs.KeySets.{met_removed}
 use Rattle.asm_explore_run.proofs.line_keys.LineKeys.remove_met.Goals as goal
