@@ -3,8 +3,9 @@
 //! The words for a run that goes wrong come from making the run again. If it ended otherwise than
 //! the search found, the program would end with an error of its own (`Unshown::Unconfirmed`) and
 //! give no report.
-ghost use Rattle.std.specs.Prelude.{◌≡◌, List, length, IfOk};
+ghost use Rattle.std.specs.Prelude.{◌≡◌, List, length, IfOk, IfSome};
 ghost use Rattle.std.specs.String.{string_bytes};
+ghost use Rattle.asm_state.specs.code.Contents.{IsStateOf};
 ghost use Rattle.asm_state.specs.Signature.{count_of, state_of};
 ghost use Rattle.asm_state.specs.declared.operation.Op.{Op};
 ghost use Rattle.asm_syntax.specs.code.Views.{spec_of};
@@ -25,13 +26,13 @@ use crate::shown_run::run_of;
 use asm_check::Checked;
 use asm_explore::{BadRun, Fault as StepFault};
 use asm_explore_words::fault::Unshown;
-use asm_reader::{one_script, read_script};
+use asm_reader::{Script, one_script, read_script};
 use asm_resolve::main_rule::resolve_main;
 use asm_state::state::State;
 use asm_step::{ResolvedSpecification, state_after};
 use asm_syntax::InputError;
 use asm_syntax::term::Term;
-use std::alloc::Global;
+use std::alloc::{AllocError, Global};
 use std::thread::Threads;
 
 /// What is said when the script of a run that goes wrong can't be written.
@@ -58,6 +59,30 @@ fn words_in(alloc: Global, subject: &Subject<'_>, state: &State) -> Result<Vec<u
     }
 }
 
+/// The state after `steps` steps of the run under a script, or none if the run ends before. The main
+/// rule is resolved once.
+fn state_in_run(
+    alloc: Global,
+    checked: &Checked,
+    turns: u32,
+    script: &Script,
+    steps: u32,
+) -> Result<Option<State>, AllocError>
+    ensures state { IfOk result (λ last. IfSome last (IsStateOf (shape_of (spec_of checked.now.spec)))) }
+    ensures after { let s = spec_of checked.now.spec in
+        IfOk result (λ last. IfSome last (λ A. IsAfter (specification_of s) turns script.now steps (state_of (shape_of s) A))) }
+{
+    let code = resolve_main(alloc, checked)?;
+    let resolved = ResolvedSpecification {
+        checked,
+        code: &code,
+        turns,
+    };
+    let last = state_after(alloc, &resolved, script, steps);
+    drop(code);
+    last
+}
+
 /// The last state of the run under the script that was found.
 fn last_state(alloc: Global, subject: &Subject<'_>, bad: &BadRun) -> Result<State, Unshown>
     ensures whole { IfOk result (λ s. length s ≡ count_of (shape_of (spec_of subject.now.checked.now.spec))) }
@@ -73,15 +98,8 @@ fn last_state(alloc: Global, subject: &Subject<'_>, bad: &BadRun) -> Result<Stat
         Err(InputError::Memory) => return Err(Unshown::Memory),
         Err(InputError::Named(_)) => return Err(Unshown::Unconfirmed),
     };
-    let code = resolve_main(alloc, subject.checked)?;
-    let resolved = ResolvedSpecification {
-        checked: subject.checked,
-        code: &code,
-        turns: subject.turns,
-    };
-    let last = state_after(alloc, &resolved, &script, steps);
-    drop(code);
-    match last? {
+    let last = state_in_run(alloc, subject.checked, subject.turns, &script, steps)?;
+    match last {
         Some(state) => Ok(state),
         None => Err(Unshown::Unconfirmed),
     }
