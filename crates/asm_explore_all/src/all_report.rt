@@ -17,6 +17,7 @@ use crate::graph_file::{GraphFile, draw};
 use crate::quiet_file::write_script;
 use asm_explore::{ExplorationResult, Finding, Progress, Watch};
 use asm_explore_report::fault_words::{Subject, UNWRITTEN, bad_words, first_words};
+use asm_explore_report::laws::all_asked_law;
 use asm_explore_report::printed::printed;
 use asm_explore_report::report::Report;
 use asm_explore_texts::conditions::Conditions;
@@ -125,6 +126,7 @@ fn reported<'w, R: Threads + Sync, F: NewFiles, W: Watch<Progress>>(
     ensures reported { IfOk result (IsReportedBy text.now conditions.now settings.now (F.made files.old) (F.made files.new)) }
     ensures explained { IfErr result (ExplainsAll text.now conditions.now settings.now (F.made files.old) (F.made files.new)) }
 {
+    all_asked_law();
     let workers = workers_of(settings);
     let (checked, question) = (&asked.checked, &asked.question);
     let answered = explore_all_by(rt, alloc, checked, question, workers, watch)?;

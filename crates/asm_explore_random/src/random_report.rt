@@ -13,6 +13,7 @@ use crate::random_facts::{random_facts, shown_run};
 use asm_explore::Watch;
 use asm_explore_report::fault_words::{Subject, UNWRITTEN, bad_words, first_words};
 use asm_explore_report::first_line::{of_fault, of_first};
+use asm_explore_report::laws::all_asked_law;
 use asm_explore_report::printed::printed;
 use asm_explore_report::report::Report;
 use asm_explore_texts::conditions::Conditions;
@@ -125,6 +126,7 @@ fn reported<'w, R: Threads + Sync, W: Watch<RandomProgress>>(
     ensures reported { IfOk result (IsRandomReported text.now conditions.now settings.now) }
     ensures explained { IfErr result (ExplainsRandom text.now conditions.now settings.now) }
 {
+    all_asked_law();
     let answer = random_runs(alloc, &asked.checked, &asked.question, watch)?;
     let text = printed_of(rt, alloc, text, asked, conditions, settings, &answer)?;
     let status = status_of(&answer.finding);

@@ -17,13 +17,13 @@ returns-in_err-answered-clause-explained g c =
 
 pub returns-in_err-drawing-clause-explained : goal.returns-in_err-drawing-clause-explained
 returns-in_err-drawing-clause-explained g c =
-    let explored : IsExplored c.args.text.now c.args.conditions.now c.args.settings.now c.in_ok-answered.answered = record { asked = plain c.args.asked.now; is_asked = asked_plain c.args.text.now c.args.conditions.now c.args.settings.now c.args.asked.now c.requires.asked; claims = c.in_ok-answered.ensures } in
+    let explored : IsExplored c.args.text.now c.args.conditions.now c.args.settings.now c.in_ok-answered.answered = record { asked = plain c.args.asked.now; is_asked = asked_plain c.all_asked_law.ensures c.args.text.now c.args.conditions.now c.args.settings.now c.args.asked.now c.requires.asked; claims = c.in_ok-answered.ensures } in
     let p = err_from_is_err_and c.from_residual-in_err-drawing.result c.from_residual-in_err-drawing.ensures.1 in
     rw (p.1, p.2) (of_graph c.args.text.now c.args.conditions.now c.args.settings.now c.in_ok-answered.answered explored _ _ c.in_err-drawing.field-0.0 c.in_err-drawing.ensures.explained)
 
 pub returns-in_err-write_script-clause-explained : goal.returns-in_err-write_script-clause-explained
 returns-in_err-write_script-clause-explained g c =
-    let explored : IsExplored c.args.text.now c.args.conditions.now c.args.settings.now c.in_ok-answered.answered = record { asked = plain c.args.asked.now; is_asked = asked_plain c.args.text.now c.args.conditions.now c.args.settings.now c.args.asked.now c.requires.asked; claims = c.in_ok-answered.ensures } in
+    let explored : IsExplored c.args.text.now c.args.conditions.now c.args.settings.now c.in_ok-answered.answered = record { asked = plain c.args.asked.now; is_asked = asked_plain c.all_asked_law.ensures c.args.text.now c.args.conditions.now c.args.settings.now c.args.asked.now c.requires.asked; claims = c.in_ok-answered.ensures } in
     let drawn = c.in_ok-drawing.ensures.drawn in
     let p = err_from_is_err_and c.from_residual-in_err-write_script.result c.from_residual-in_err-write_script.ensures.1 in
     rw (p.1, p.2) (of_script c.args.text.now c.args.conditions.now c.args.settings.now c.in_ok-answered.answered explored _ _ _ (graph_lines c.in_ok-drawing.drawing) drawn.0 drawn.2 drawn.1
@@ -31,7 +31,7 @@ returns-in_err-write_script-clause-explained g c =
 
 pub returns-in_err-text-clause-explained : goal.returns-in_err-text-clause-explained
 returns-in_err-text-clause-explained g c =
-    let explored : IsExplored c.args.text.now c.args.conditions.now c.args.settings.now c.in_ok-answered.answered = record { asked = plain c.args.asked.now; is_asked = asked_plain c.args.text.now c.args.conditions.now c.args.settings.now c.args.asked.now c.requires.asked; claims = c.in_ok-answered.ensures } in
+    let explored : IsExplored c.args.text.now c.args.conditions.now c.args.settings.now c.in_ok-answered.answered = record { asked = plain c.args.asked.now; is_asked = asked_plain c.all_asked_law.ensures c.args.text.now c.args.conditions.now c.args.settings.now c.args.asked.now c.requires.asked; claims = c.in_ok-answered.ensures } in
     let drawn = c.in_ok-drawing.ensures.drawn in
     let p = err_from_is_err_and c.from_residual-in_err-text.result c.from_residual-in_err-text.ensures.1 in
     rw (p.1, p.2) (of_printing c.args.text.now c.args.conditions.now c.args.settings.now c.in_ok-answered.answered explored _ _ _ (graph_lines c.in_ok-drawing.drawing) drawn.0 drawn.2 drawn.1
@@ -43,7 +43,7 @@ returns-clause-reported g c =
     let answer = c.in_ok-answered.answered in
     let drawn = c.in_ok-drawing.ensures.drawn in
     let quiet = quiet_files (option_map (λ name. name.now) c.args.settings.now.quiet) answer.first_quiet in
-    let explored : IsExplored c.args.text.now c.args.conditions.now c.args.settings.now c.in_ok-answered.answered = record { asked = plain c.args.asked.now; is_asked = asked_plain c.args.text.now c.args.conditions.now c.args.settings.now c.args.asked.now asked; claims = c.in_ok-answered.ensures } in (
+    let explored : IsExplored c.args.text.now c.args.conditions.now c.args.settings.now c.in_ok-answered.answered = record { asked = plain c.args.asked.now; is_asked = asked_plain c.all_asked_law.ensures c.args.text.now c.args.conditions.now c.args.settings.now c.args.asked.now asked; claims = c.in_ok-answered.ensures } in (
       drawn.0 ++ quiet,
       makes_both _ _ _ drawn.0 quiet drawn.1 c.in_ok-write_script.ensures.made,
       record {

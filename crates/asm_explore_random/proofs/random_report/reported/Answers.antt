@@ -9,7 +9,7 @@ returns-clause-reported g c =
     let asked = c.requires.asked in
     record {
       asked = plain c.args.asked.now;
-      is_asked = asked_plain c.args.text.now c.args.conditions.now c.args.settings.now c.args.asked.now asked;
+      is_asked = asked_plain c.all_asked_law.ensures c.args.text.now c.args.conditions.now c.args.settings.now c.args.asked.now asked;
       answer = c.in_ok-answer.answer;
       claims = c.in_ok-answer.ensures.claims;
       counts = c.in_ok-answer.ensures.counts;
@@ -21,4 +21,4 @@ pub returns-in_err-text-clause-explained : goal.returns-in_err-text-clause-expla
 returns-in_err-text-clause-explained g c =
     let p = err_from_is_err_and c.from_residual-in_err-text.result c.from_residual-in_err-text.ensures.1 in
     rw (p.1, p.2) (of_showing c.args.text.now c.args.conditions.now c.args.settings.now c.in_err-text.field-0.0 (plain c.args.asked.now)
-    (asked_plain c.args.text.now c.args.conditions.now c.args.settings.now c.args.asked.now c.requires.asked))
+    (asked_plain c.all_asked_law.ensures c.args.text.now c.args.conditions.now c.args.settings.now c.args.asked.now c.requires.asked))
