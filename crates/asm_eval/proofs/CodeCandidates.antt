@@ -2,7 +2,7 @@
 use Rattle.std.proofs.Common.{◌≡◌, ℕ, true, false, List, [], ◌∷◌, filter, Option, Some, None, is_some, sym, ap, ◌∙◌, refl}
 use Rattle.std.specs.Prelude.{slice_get}
 use Rattle.asm_state.specs.declared.value.Value.{Value}
-use Rattle.asm_meaning.specs.declared.view.View.{View}
+use Rattle.asm_eval.specs.declared.view.View.{View}
 use Rattle.asm_code.specs.declared.code.Code.{Code}
 use Rattle.asm_eval.proofs.RuleYields.{universe_here}
 use Rattle.asm_eval.specs.code.Evaluation.{is_passing, passing_in}

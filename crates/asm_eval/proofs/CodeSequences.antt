@@ -16,14 +16,14 @@ use Rattle.asm_state.specs.Updates.{UpdateSet, IsConsistent, none, merge, fire}
 use Rattle.asm_state.proofs.UpdateLemmas.UnionsAndMerges.{merge_laws}
 use Rattle.asm_updates.specs.code.SummaryRanges.{SummaryRanges}
 use Rattle.asm_meaning.specs.Does.{Outcome, nothing, part_and, turn_and, in_order, turns_of}
-use Rattle.asm_meaning.specs.code.FormedOutcomes.{IsMergedPart, IsStoppedAt}
-use Rattle.asm_meaning.specs.code.PartSets.{IsPartSet}
+use Rattle.asm_eval.specs.code.FormedOutcomes.{IsMergedPart, IsStoppedAt}
+use Rattle.asm_eval.specs.code.PartSets.{IsPartSet}
 use Rattle.asm_meaning.specs.Program.{nothing_bound}
 use Rattle.asm_meaning.specs.Value.{Reading}
 use Rattle.asm_meaning.specs.Yields.{Path, Exhausted, at}
-use Rattle.asm_meaning.specs.declared.part_set.PartSet.{PartSet}
-use Rattle.asm_meaning.specs.declared.stopped.Stopped.{Stopped}
-use Rattle.asm_meaning.proofs.Sequences.{part_laws-good_part as good_part, part_laws-faulty_part as faulty_part, part_laws-exhausted_part as exhausted_part, part_laws-good_turn as good_turn, part_laws-last_turn as last_turn, part_laws-exhausted_turn as exhausted_turn, stopping_laws-handed_on as stopped_on}
+use Rattle.asm_eval.specs.declared.part_set.PartSet.{PartSet}
+use Rattle.asm_eval.specs.declared.stopped.Stopped.{Stopped}
+use Rattle.asm_eval.proofs.SequenceLaws.{part_laws-good_part as good_part, part_laws-faulty_part as faulty_part, part_laws-exhausted_part as exhausted_part, part_laws-good_turn as good_turn, part_laws-last_turn as last_turn, part_laws-exhausted_turn as exhausted_turn, stopping_laws-handed_on as stopped_on}
 use Rattle.asm_code.specs.code.RuleMeaning.{Locations, meaning, meanings}
 use Rattle.asm_code.specs.code.RuleTree as tree
 use Rattle.asm_code.specs.code.RuleViews.{rule_of, rules_of}

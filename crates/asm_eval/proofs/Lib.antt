@@ -21,3 +21,10 @@ pub mod PieceForms
 pub mod OpenedRules
 pub mod OpeningLaws
 pub mod SharedPieces
+pub mod ViewedLocations
+pub mod FiredViews
+pub mod Candidates
+pub mod FollowsLaws
+pub mod FromNothing
+pub mod SequenceLaws
+pub mod SharedViews

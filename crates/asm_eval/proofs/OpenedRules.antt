@@ -17,7 +17,7 @@ use Rattle.asm_state.specs.Signature.{Shape}
 use Rattle.asm_meaning.specs.code.Intervals.{between}
 use Rattle.asm_meaning.specs.Value.{Reading}
 use Rattle.asm_meaning.specs.Yields.{Path, at}
-use Rattle.asm_meaning.specs.declared.part.Part.TheVariants as part
+use Rattle.asm_eval.specs.declared.part.Part.TheVariants as part
 use Rattle.asm_code.specs.code.CodeTree as codes
 use Rattle.asm_code.specs.code.Readings.{always, universe_at}
 use Rattle.asm_code.specs.code.RuleMeaning.{Locations, passes}

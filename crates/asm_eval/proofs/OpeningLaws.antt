@@ -13,13 +13,13 @@ use Rattle.asm_state.specs.Signature.{Shape}
 use Rattle.asm_state.specs.declared.value.Value.{Value}
 use Rattle.asm_meaning.specs.Does.{Outcome, nothing, both, counted, parts, each, one_of}
 use Rattle.asm_meaning.specs.code.OutcomesBeside.{counting, all_both}
-use Rattle.asm_meaning.specs.code.Intervals.{IsCutPart, between}
+use Rattle.asm_meaning.specs.code.Intervals.{between}
 use Rattle.asm_meaning.specs.Program.{nothing_bound}
 use Rattle.asm_meaning.specs.Taken.{taken}
 use Rattle.asm_meaning.specs.Value.{Reading, is_true}
 use Rattle.asm_meaning.specs.Yields.{Path, at, beside}
-use Rattle.asm_meaning.specs.declared.part.Part.{Part}
-use Rattle.asm_meaning.specs.declared.part.Part.TheVariants as part
+use Rattle.asm_eval.specs.declared.part.Part.{Part}
+use Rattle.asm_eval.specs.declared.part.Part.TheVariants as part
 use Rattle.asm_meaning.proofs.BesideLemmas.GroupsBeside.{group_laws-counting_none as counting_none, group_laws-one as one_alone}
 use Rattle.asm_meaning.proofs.Intervals.{interval_laws-all as between_all, interval_laws-cut as each_cut, interval_laws-none as each_none}
 use Rattle.asm_code.specs.code.CodeTree.{Code}
@@ -30,7 +30,7 @@ use Rattle.asm_code.specs.code.RuleViews.{rule_of}
 use Rattle.asm_eval.proofs.Lists.{by_test}
 use Rattle.asm_eval.proofs.OpenedRules.{before_end}
 use Rattle.asm_eval.specs.code.Frames.{readings_of}
-use Rattle.asm_eval.specs.code.OpenedPieces.{Gives, IsCut, Opens, OpeningLaws, is_closed, is_closed_part, pieces_in, pieces_yield, works_in}
+use Rattle.asm_eval.specs.code.OpenedPieces.{IsCutPart, Gives, IsCut, Opens, OpeningLaws, is_closed, is_closed_part, pieces_in, pieces_yield, works_in}
 use Rattle.asm_eval.specs.code.Opening.{Work, all_of, body_works, choice_works, one_work, opened, part_of, part_opened, part_works, rule_works, span_works, spans, work_of}
 use Rattle.asm_eval.specs.code.Pieces.{IsPartOf, IsPiece, part_yields, piece_yields}
 use Rattle.asm_eval.specs.code.Evaluation.{evaluation_choices, frame_locations, evaluation_shape, evaluation_state}

@@ -1,7 +1,7 @@
 -- Free. If a piece has a span of a resolved rule, the rule is a `forall`.
 use Rattle.std.proofs.Common.{◌≡◌, ◌∙◌, ℕ, Option, Box, Global, sym, subst}
 use Rattle.asm_state.specs.Signature.{Shape}
-use Rattle.asm_meaning.specs.declared.part.Part.TheVariants as part
+use Rattle.asm_eval.specs.declared.part.Part.TheVariants as part
 use Rattle.asm_code.specs.code.RuleTree as tree
 use Rattle.asm_code.specs.code.RuleViews.{rule_of, rule_step}
 use Rattle.asm_code.specs.declared.code.Code.{Code}

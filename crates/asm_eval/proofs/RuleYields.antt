@@ -11,7 +11,7 @@ use Rattle.asm_state.specs.Signature.{Shape, location_at}
 use Rattle.asm_state.specs.Updates.{one}
 use Rattle.asm_updates.specs.code.SummaryRanges.{SummaryRanges}
 use Rattle.asm_updates.specs.code.Stands.{Adds}
-use Rattle.asm_meaning.specs.code.FormedOutcomes.{Forms, greatest_count}
+use Rattle.asm_eval.specs.code.FormedOutcomes.{Forms, greatest_count}
 use Rattle.asm_meaning.specs.Does.{Outcome, nothing, both, parts, in_order, counted, each}
 use Rattle.asm_meaning.specs.code.Intervals.{between}
 use Rattle.asm_meaning.specs.Program.{nothing_bound}
@@ -19,7 +19,7 @@ use Rattle.asm_meaning.specs.Taken.{taken}
 use Rattle.asm_meaning.specs.Targets.{update}
 use Rattle.asm_meaning.specs.Value.{Reading, is_true}
 use Rattle.asm_meaning.specs.Yields.{Path, Exhausted, Gives, beside, at}
-use Rattle.asm_meaning.proofs.Candidates.{candidate_laws-some as some_taken, candidate_laws-none as none_taken}
+use Rattle.asm_eval.proofs.Candidates.{candidate_laws-some as some_taken, candidate_laws-none as none_taken}
 use Rattle.asm_meaning.proofs.Intervals.{interval_laws-all as between_all, interval_laws-next as each_next, interval_laws-none as each_none}
 use Rattle.asm_code.proofs.RuleForms.{rule_laws-skip_form as skip_form, rule_laws-assign_form as assign_form, rule_laws-par_form as par_form, rule_laws-seq_form as seq_form, rule_laws-if_form as if_form, rule_laws-let_form as let_form, rule_laws-forall_form as forall_form, rule_laws-choose_form as choose_form, rule_laws-iterate_form as iterate_form, rule_laws-call_form as call_form}
 use Rattle.asm_code.specs.code.CodeViews.{code_of, codes_of}

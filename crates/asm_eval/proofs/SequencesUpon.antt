@@ -23,14 +23,14 @@ use Rattle.asm_state.proofs.UpdateLemmas.Summaries.{fire_laws}
 use Rattle.asm_updates.specs.code.SummaryRanges.{SummaryRanges}
 use Rattle.asm_updates.specs.code.Stands.{Stands, Adds}
 use Rattle.asm_meaning.specs.Does.{Outcome, nothing, following}
-use Rattle.asm_meaning.specs.code.FormedOutcomes.{Forms, FollowsUpon, IsMergedPart, IsStoppedAt, greatest_count}
-use Rattle.asm_meaning.specs.code.PartSets.{IsPartSet}
+use Rattle.asm_eval.specs.code.FormedOutcomes.{Forms, FollowsUpon, IsMergedPart, IsStoppedAt, greatest_count}
+use Rattle.asm_eval.specs.code.PartSets.{IsPartSet}
 use Rattle.asm_meaning.specs.Yields.{Path, Result, Gives, Exhausted, after}
-use Rattle.asm_meaning.specs.declared.outcome.Forming.{Forming}
-use Rattle.asm_meaning.specs.declared.part_set.PartSet.{PartSet}
-use Rattle.asm_meaning.specs.declared.part_set.PartSet.TheVariants.{Empty, Consistent, Inconsistent}
-use Rattle.asm_meaning.specs.declared.stopped.Stopped.{Stopped}
-use Rattle.asm_meaning.proofs.Sequences.{stopping_laws-handed_on as stopped_on}
+use Rattle.asm_eval.specs.declared.outcome.Forming.{Forming}
+use Rattle.asm_eval.specs.declared.part_set.PartSet.{PartSet}
+use Rattle.asm_eval.specs.declared.part_set.PartSet.TheVariants.{Empty, Consistent, Inconsistent}
+use Rattle.asm_eval.specs.declared.stopped.Stopped.{Stopped}
+use Rattle.asm_eval.proofs.SequenceLaws.{none_consistent, stopping_laws-handed_on as stopped_on}
 
 -- what is left of a path when its last number is taken off
 pub popped : (before rest p : List ℕ) (m n : ℕ) → length before ≡ m → rest ≡ take (m - 1) before → before ≡ p ++ n ∷ [] → rest ≡ p
@@ -41,9 +41,6 @@ popped before rest p m n many is longer =
     is ∙ (λ i. take (one_less i) (longer i)) ∙ take-append-le (length p) p (n ∷ []) few ∙ take_all (length p) p few
 
 -- ---- sets
-
-pub none_consistent : IsConsistent none
-none_consistent = record { one_value = λ l v w h k. absurd (member_laws.of_none l v h); no_stray = λ f v. member_laws.of_none (Stray f) v }
 
 later_has : (U V : UpdateSet) (l : _) (v : _) → Has V l v → Has (merge U V) l v
 later_has U V l v h = (member_laws.of_merge U V l v).1 (inr h)

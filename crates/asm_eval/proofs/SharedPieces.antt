@@ -7,8 +7,8 @@ use denote.Param.SendFields.{as_row_sync, as_row_send, declared_sync, declared_s
 use Rattle.std.specs.contracts.option.Option as Option
 use Rattle.asm_state.specs.contracts.value_code.ValueCode as ValueCode
 use Rattle.asm_state.specs.contracts.word.Word as Word
-use Rattle.asm_meaning.specs.contracts.part.Part as Part
-use Rattle.asm_meaning.specs.contracts.path.Path as Path
+use Rattle.asm_eval.specs.contracts.part.Part as Part
+use Rattle.asm_eval.specs.contracts.path.Path as Path
 use Rattle.asm_code.specs.contracts.code.Code as Code
 use Rattle.asm_code.specs.contracts.rule_code.RuleCode as RuleCode
 use Rattle.asm_code.proofs.SharedCodes.{sharing_laws-codes as code_shared, sharing_laws-rules as rule_shared}

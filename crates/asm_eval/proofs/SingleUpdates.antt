@@ -10,15 +10,15 @@ use Rattle.asm_state.proofs.UpdateLemmas.UnionsAndMerges.{merge_laws}
 use Rattle.asm_updates.specs.code.SummaryRanges.{SummaryRanges}
 use Rattle.asm_updates.specs.code.Stands.{Stands}
 use Rattle.asm_meaning.specs.Does.{Outcome, nothing}
-use Rattle.asm_meaning.specs.code.FormedOutcomes.{IsMergedPart, greatest_count}
-use Rattle.asm_meaning.specs.code.PartSets.{IsPartSet}
-use Rattle.asm_meaning.specs.code.TermValues.{shown}
+use Rattle.asm_eval.specs.code.FormedOutcomes.{IsMergedPart, greatest_count}
+use Rattle.asm_eval.specs.code.PartSets.{IsPartSet}
+use Rattle.asm_eval.specs.code.ShownViews.{shown}
 use Rattle.asm_meaning.specs.Yields.{Path, Gives}
-use Rattle.asm_meaning.specs.declared.part_set.PartSet.{PartSet}
-use Rattle.asm_meaning.specs.declared.part_set.PartSet.TheVariants.{Empty}
-use Rattle.asm_meaning.specs.declared.stopped.Stopped.{Stopped}
-use Rattle.asm_meaning.specs.declared.view.View.{View}
-use Rattle.asm_meaning.proofs.Sequences.{sequence_laws-goes_by as goes_by}
+use Rattle.asm_eval.specs.declared.part_set.PartSet.{PartSet}
+use Rattle.asm_eval.specs.declared.part_set.PartSet.TheVariants.{Empty}
+use Rattle.asm_eval.specs.declared.stopped.Stopped.{Stopped}
+use Rattle.asm_eval.specs.declared.view.View.{View}
+use Rattle.asm_eval.proofs.SequenceLaws.{sequence_laws-goes_by as goes_by}
 use Rattle.asm_reader.specs.declared.picks.Picks.{Ghosts}
 use Rattle.asm_code.specs.code.RuleMeaning.{meaning}
 use Rattle.asm_code.specs.code.RuleTree.{RuleCode}

@@ -21,9 +21,9 @@ use Rattle.asm_meaning.specs.code.Intervals.{between}
 use Rattle.asm_meaning.specs.Does.{Outcome, nothing, both, counted, each}
 use Rattle.asm_meaning.specs.Value.{Reading}
 use Rattle.asm_meaning.specs.Yields.{Path, at, Exhausted}
-use Rattle.asm_meaning.specs.code.FormedOutcomes.{Follows}
-use Rattle.asm_meaning.specs.declared.outcome.Forming.{Forming}
-use Rattle.asm_meaning.specs.declared.stopped.Stopped.{Stopped}
+use Rattle.asm_eval.specs.code.FormedOutcomes.{Follows}
+use Rattle.asm_eval.specs.declared.outcome.Forming.{Forming}
+use Rattle.asm_eval.specs.declared.stopped.Stopped.{Stopped}
 use Rattle.asm_code.specs.code.Readings.{always}
 use Rattle.asm_code.specs.code.RuleMeaning.{Locations, meaning}
 use Rattle.asm_code.specs.code.RuleTree.{RuleCode}

@@ -9,7 +9,7 @@ ghost use Rattle.asm_state.specs.declared.operation.Op.TheVariants.{Add, Remaind
 ghost use Rattle.asm_state.specs.declared.value.Value.{Value as Content};
 ghost use Rattle.asm_state.specs.declared.value.Value.TheVariants.{Number as Whole};
 ghost use Rattle.asm_meaning.specs.Value.{is_true};
-ghost use Rattle.asm_meaning.specs.code.TermValues.{shown};
+ghost use Rattle.asm_eval.specs.code.ShownViews.{shown};
 ghost use Rattle.asm_code.specs.code.Readings as reading;
 ghost use Rattle.asm_code.specs.code.Readings.{position_from};
 ghost use Rattle.asm_code.specs.code.SoundCodes.{AreCells};
@@ -17,9 +17,9 @@ ghost use Rattle.asm_eval.specs.code.Blocks.{at};
 
 use crate::applied::{added, applied, equal_to, remainder_by};
 use crate::location_values::{in_grid, in_row, is_true};
+use crate::view::View;
 use asm_code::code::{CodeRange, Grid};
 use asm_code::modulus::Modulus;
-use asm_meaning::View;
 use asm_state::number::Number;
 use asm_state::operation::Op;
 use asm_state::universe::Universe;

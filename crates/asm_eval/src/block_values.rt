@@ -19,9 +19,9 @@ use crate::block::{
 use crate::frame::Frame;
 use crate::location_values::cell_by_call;
 use crate::value::{local_by_call, value};
+use crate::view::View;
 use asm_code::code::{Code, CodeRange, Grid};
 use asm_code::modulus::Modulus;
-use asm_meaning::View;
 use asm_state::number::Number;
 use asm_state::operation::Op;
 use asm_state::word::Word;

@@ -8,7 +8,8 @@
 ghost use Rattle.std.specs.Prelude.{◌≡◌, ◌≤◌, option_map, take};
 ghost use Rattle.std.specs.List.{filter};
 ghost use Rattle.asm_reader.specs.ScriptLines.{pick};
-ghost use Rattle.asm_meaning.specs.Taken.{taken, found_candidate};
+ghost use Rattle.asm_meaning.specs.Taken.{taken};
+ghost use Rattle.asm_eval.specs.code.FoundCandidates.{found_candidate};
 ghost use Rattle.asm_code.specs.code.CodeViews.{code_of};
 ghost use Rattle.asm_code.specs.code.RuleMeaning.{IsSoundTest};
 ghost use Rattle.asm_code.specs.code.SoundCodes.{IsUniverseNumber};
@@ -17,12 +18,12 @@ ghost use Rattle.asm_eval.specs.code.Evaluation.{is_passing, passes_in, passing_
 
 use crate::block::BLOCK;
 use crate::evaluation::Evaluation;
+use crate::found_candidate::{FoundCandidate, element_at};
 use crate::frame::Frame;
 use crate::keep_holding::keep_holding;
 use crate::value::holds;
+use crate::view::View;
 use asm_code::code::Code;
-use asm_meaning::View;
-use asm_meaning::found_candidate::{FoundCandidate, element_at};
 use asm_reader::Picks;
 use asm_state::word::Word;
 

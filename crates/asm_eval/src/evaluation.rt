@@ -1,7 +1,8 @@
 //! What stays the same while resolved rules are evaluated.
 ghost use Rattle.std.specs.Prelude.{◌<◌, ◌^◌};
 
-use asm_meaning::{Choices, View};
+use crate::choices::Choices;
+use crate::view::View;
 use asm_reader::Picks;
 
 /// What rules are evaluated against: what a view shows, the choices of a step, and the limit of

@@ -9,7 +9,7 @@
 //! added to what has been formed, is what the whole yields, added to what was there before.
 ghost use Rattle.std.specs.Prelude.{◌≡◌, ◌≤◌, length, map, option_map};
 ghost use Rattle.asm_state.specs.Signature.{count_of};
-ghost use Rattle.asm_meaning.specs.code.FormedOutcomes.{Follows};
+ghost use Rattle.asm_eval.specs.code.FormedOutcomes.{Follows};
 ghost use Rattle.asm_meaning.specs.Yields as yields;
 ghost use Rattle.asm_code.specs.code.CodeViews.{code_of, codes_of};
 ghost use Rattle.asm_code.specs.code.Readings.{universe_at};
@@ -24,15 +24,17 @@ use crate::block::{BLOCK, elements_from};
 use crate::choose::{chosen, keep_passing};
 use crate::evaluation::Evaluation;
 use crate::frame::Frame;
+use crate::outcome::Forming;
 use crate::regions::{RegionOutcome, Regions};
 use crate::sequences::{form_in_order, form_turns};
+use crate::spare_sets::take_memory;
+use crate::stopped::Stopped;
 use crate::target::{optional_target_number, target_number};
+use crate::update::add_update;
 use crate::value::{holds, value};
+use crate::view::View;
 use asm_code::code::Code;
 use asm_code::rule_code::{RuleCode, TargetCode};
-use asm_meaning::spare_sets::take_memory;
-use asm_meaning::update::add_update;
-use asm_meaning::{Forming, Stopped, View};
 use asm_reader::Picks;
 use std::alloc::Global;
 

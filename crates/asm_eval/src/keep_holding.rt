@@ -17,8 +17,8 @@ use crate::block::{BLOCK, keep_tested};
 use crate::block_values::{chain_values, values};
 use crate::frame::Frame;
 use crate::value::holds;
+use crate::view::View;
 use asm_code::code::Code;
-use asm_meaning::View;
 use asm_state::operation::Op;
 use asm_state::word::Word;
 

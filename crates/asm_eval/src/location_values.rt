@@ -4,7 +4,8 @@ ghost use Rattle.asm_state.specs.declared.signature_limits.TheConstants.{MAX_LOC
 ghost use Rattle.asm_state.specs.code.FirstLocations.{position_in_grid};
 ghost use Rattle.asm_state.specs.Signature.{count_of, functions_of};
 ghost use Rattle.asm_meaning.specs.Declarations.{function_at};
-ghost use Rattle.asm_meaning.specs.code.TermValues.{shown, held};
+ghost use Rattle.asm_meaning.specs.code.TermValues.{held};
+ghost use Rattle.asm_eval.specs.code.ShownViews.{shown};
 ghost use Rattle.asm_meaning.specs.Value as spec;
 ghost use Rattle.asm_code.specs.code.Readings as reading;
 ghost use Rattle.asm_code.specs.code.Readings.{position_from, content};
@@ -12,8 +13,8 @@ ghost use Rattle.asm_code.specs.code.RuleMeaning.{number_from};
 ghost use Rattle.asm_code.specs.code.SoundCodes.{IsCell, AreCells};
 ghost use Rattle.asm_eval.specs.code.AndChains as conditions;
 
+use crate::view::View;
 use asm_code::code::{CodeRange, Grid};
-use asm_meaning::View;
 use asm_state::function::FunctionKind;
 use asm_state::word::Word;
 

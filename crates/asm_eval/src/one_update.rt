@@ -13,9 +13,9 @@ ghost use Rattle.asm_eval.specs.code.OneUpdate.{IsOneUpdate, YieldsOneUpdate};
 use crate::frame::Frame;
 use crate::target::target_number;
 use crate::value::{holds, value};
+use crate::view::View;
 use asm_code::code::Code;
 use asm_code::rule_code::{RuleCode, TargetCode};
-use asm_meaning::View;
 use asm_state::word::Word;
 use std::alloc::{AllocError, Global};
 

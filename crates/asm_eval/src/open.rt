@@ -2,7 +2,7 @@
 ghost use Rattle.std.specs.Prelude.{◌-◌, ◌<◌, ◌≤◌, Some, map, option_map, IfOk};
 ghost use Rattle.asm_meaning.specs.code.Intervals.{between};
 ghost use Rattle.asm_meaning.specs.Yields as yields;
-ghost use Rattle.asm_meaning.specs.declared.part.Part.TheVariants as part;
+ghost use Rattle.asm_eval.specs.declared.part.Part.TheVariants as part;
 ghost use Rattle.asm_code.specs.code.CodeViews.{code_of};
 ghost use Rattle.asm_code.specs.code.Readings.{universe_at};
 ghost use Rattle.asm_code.specs.code.RuleMeaning.{AreSoundRules, IsSoundRule, IsSoundTest};
@@ -17,12 +17,13 @@ ghost use Rattle.asm_eval.specs.code.Evaluation.{evaluation_choices, frame_locat
 use crate::choose::{chosen, passes};
 use crate::evaluation::Evaluation;
 use crate::frame::Frame;
+use crate::part::Part;
+use crate::path::Path;
 use crate::piece::Piece;
 use crate::target::optional_target_number;
 use crate::value::{holds, value};
 use asm_code::code::Code;
 use asm_code::rule_code::RuleCode;
-use asm_meaning::{Part, Path};
 use asm_reader::Picks;
 use std::alloc::{AllocError, Global};
 

@@ -1,7 +1,7 @@
 //! Pieces of resolved rules, evaluated whole.
 ghost use Rattle.std.specs.Prelude.{◌≡◌, OnOk, IfOk, IfErr};
-ghost use Rattle.asm_meaning.specs.code.FormedOutcomes.{Follows, Forms, IsFormed, IsStoppedAt};
-ghost use Rattle.asm_meaning.specs.declared.part.Part.TheVariants as part;
+ghost use Rattle.asm_eval.specs.code.FormedOutcomes.{Follows, Forms, IsFormed, IsStoppedAt};
+ghost use Rattle.asm_eval.specs.declared.part.Part.TheVariants as part;
 ghost use Rattle.asm_code.specs.code.RuleMeaning.{IsSoundRule};
 ghost use Rattle.asm_code.specs.code.RuleViews.{rule_of};
 ghost use Rattle.asm_eval.specs.code.Frames.{IsSoundFrame};
@@ -11,9 +11,12 @@ ghost use Rattle.asm_eval.specs.code.Evaluation.{HasLocations, evaluation_shape}
 use crate::evaluation::Evaluation;
 use crate::form::{form, form_span};
 use crate::frame::Frame;
+use crate::outcome::{Forming, Outcome};
+use crate::part::Part;
+use crate::path::Path;
 use crate::regions::OnThisThread;
+use crate::stopped::Stopped;
 use asm_code::rule_code::RuleCode;
-use asm_meaning::{Forming, Outcome, Part, Path, Stopped};
 use asm_reader::Picks;
 use std::alloc::{AllocError, Global};
 

@@ -4,9 +4,9 @@ ghost use Rattle.asm_code.specs.code.RuleMeaning.{IsSoundRule};
 ghost use Rattle.asm_code.specs.code.RuleViews.{rule_of};
 ghost use Rattle.asm_eval.specs.code.Pieces.{HasAtMost, IsPiece, all_positions, positions_in};
 
+use crate::part::Part;
 use crate::piece::Piece;
 use asm_code::rule_code::RuleCode;
-use asm_meaning::Part;
 use asm_state::signature::Signature;
 
 /// At how many positions of its universe a piece's `forall` is evaluated. None: its rule is no

@@ -6,10 +6,13 @@ ghost use Rattle.asm_eval.specs.code.Frames.{IsSoundFrame};
 ghost use Rattle.asm_eval.specs.code.Regions.{IsFormedOrLeft, TakesRegions, TakesThem};
 ghost use Rattle.asm_eval.specs.code.Evaluation.{HasLocations, rule_at, evaluation_shape};
 
+use crate::choices::Choices;
 use crate::evaluation::Evaluation;
 use crate::frame::Frame;
+use crate::outcome::Forming;
+use crate::stopped::Stopped;
+use crate::view::View;
 use asm_code::rule_code::RuleCode;
-use asm_meaning::{Choices, Forming, Stopped, View};
 use asm_reader::Picks;
 use std::alloc::Global;
 

@@ -14,9 +14,9 @@ ghost use Rattle.asm_eval.specs.code.Evaluation.{optional_target_in, location_nu
 use crate::frame::Frame;
 use crate::location_values::{number_in_grid, number_in_row};
 use crate::value::{operand, value};
+use crate::view::View;
 use asm_code::code::{Code, CodeRange, Grid};
 use asm_code::rule_code::TargetCode;
-use asm_meaning::View;
 use asm_state::word::Word;
 use std::alloc::{AllocError, Global};
 

@@ -33,9 +33,9 @@ use crate::keep_holding::keep_holding;
 use crate::location_values::{
     cell_by_call, function_value, in_grid, in_row, is_false, is_true, is_truth, located,
 };
+use crate::view::View;
 use asm_code::code::{Code, CodeRange, Grid};
 use asm_code::modulus::Modulus;
-use asm_meaning::View;
 use asm_state::number::Number;
 use asm_state::operation::Op;
 use asm_state::universe::Universe;

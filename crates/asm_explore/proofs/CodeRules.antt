@@ -18,7 +18,7 @@ use Rattle.asm_meaning.specs.Taken.{taken}
 use Rattle.asm_meaning.specs.Targets.{update}
 use Rattle.asm_meaning.specs.Value.{Reading, is_true}
 use Rattle.asm_meaning.specs.Yields.{Path, Gives, at}
-use Rattle.asm_meaning.proofs.Candidates.{candidate_laws-some as some_taken, candidate_laws-none as none_taken}
+use Rattle.asm_eval.proofs.Candidates.{candidate_laws-some as some_taken, candidate_laws-none as none_taken}
 use Rattle.asm_meaning.proofs.Intervals.{interval_laws-all as between_all, interval_laws-next as each_next, interval_laws-none as each_none}
 use Rattle.asm_code.specs.code.CodeViews.{code_of, codes_of}
 use Rattle.asm_code.specs.code.CodeTree as codes

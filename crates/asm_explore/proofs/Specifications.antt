@@ -1,5 +1,4 @@
 -- Free. A resolved specification's step.
---     nothing_over        a view with the empty set over a state shows the state
 --     step_is             what the code of the main rule yields is the step of the specification
 --     agrees_nothing      with no name bound
 --     refused_listed      a refusal of the main rule's outcomes is one of the step's
@@ -37,11 +36,6 @@ use Rattle.asm_explore.specs.code.ChoicePaths.{HaveOwnPaths}
 use Rattle.asm_explore.specs.code.StepOutcomes.{IsListed}
 use Rattle.asm_explore.proofs.ChoiceLemmas.MadeChoices.{made_same}
 use Rattle.asm_explore.proofs.OutcomeLemmas.RefusedParts.{refuses_weaker}
-
-pub nothing_over : (signature shape : Shape) (set : SummaryRanges) (contents : List Value) (A : State) → signature ≡ shape → Stands signature set none
-    → ((U : UpdateSet) → Stands signature set U → IsConsistent U → A ≡ fire (state_of signature contents) U) → A ≡ state_of shape contents
-nothing_over signature shape set contents A same stands fired =
-    fired none stands none_consistent ∙ fire_laws.of_none (state_of signature contents) ∙ ap (λ s. state_of s contents) same
 
 pub agrees_nothing : (program : Program) (rs : List Reading) → Agrees program [] nothing_bound rs
 agrees_nothing program rs = record { bound = λ x i is. cc; free = λ x is. refl }

@@ -1,7 +1,7 @@
 //! What stays the same while outcomes are listed.
 ghost use Rattle.std.specs.Prelude.{◌<◌, ◌^◌};
 
-use asm_meaning::View;
+use asm_eval::View;
 
 /// What rules are explored against: what a view shows, the limit of turns, and how many outcomes
 /// may be listed.

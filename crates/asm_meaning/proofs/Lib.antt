@@ -6,8 +6,6 @@ pub mod TermCases
 pub mod Weights
 pub mod Run
 pub mod LongerRuns
-pub mod ViewedLocations
-pub mod FiredViews
 pub mod MeantDeclarations
 pub mod PlainForms
 pub mod RanksInPrograms
@@ -15,14 +13,9 @@ pub mod NumberedValues
 pub mod TreeWeights
 pub mod Targets
 pub mod CalledNames
-pub mod Candidates
 pub mod Intervals
 pub mod NestedPaths
-pub mod FollowsLaws
-pub mod FromNothing
-pub mod Sequences
 pub mod InitialContents
 pub mod Examples
-pub mod SharedViews
 pub mod BesideLemmas
 pub mod ChoiceLemmas

@@ -1,18 +1,13 @@
-//! Laws of the meaning of terms and rules, and of how outcomes are formed.
-ghost use Rattle.std.specs.Prelude.{◌≡◌, ◌≢◌, ◌⊎◌, ◌<◌, ◌≤◌, ◌+◌, ◌*◌, ◌%◌, ◌++◌, ℕ, suc, min, Bool, true, false, cond, List, [], ◌∷◌, Option, Some, None, Result as Returned, Ok, Err, map, filter, take, length, slice_get, slice_index_or, is_some, OnOk, IfErr, IfNone, IfSome, IsErrAnd};
+//! Laws of the meaning of terms and rules.
+ghost use Rattle.std.specs.Prelude.{◌≡◌, ◌<◌, ◌≤◌, ◌+◌, ◌*◌, ◌++◌, ℕ, suc, Bool, true, false, cond, List, [], ◌∷◌, Option, Some, None, map, length, slice_get, slice_index_or};
 ghost use Rattle.std.proofs.Common.{Box, Vec, Global};
 ghost use Rattle.asm_state.specs.Location.{State};
-ghost use Rattle.asm_state.specs.Signature.{Shape, count_of, domain_of};
-ghost use Rattle.asm_state.specs.Updates.{UpdateSet, IsConsistent, IsFirstFault, none, merge};
+ghost use Rattle.asm_state.specs.Signature.{Shape, domain_of};
 ghost use Rattle.asm_state.specs.declared.function.Function.{Function};
 ghost use Rattle.asm_state.specs.declared.function.FunctionKind.TheVariants as kind;
 ghost use Rattle.asm_state.specs.declared.operation.Op.{Op};
 ghost use Rattle.asm_state.specs.declared.value.Value.{Value};
 ghost use Rattle.asm_state.specs.declared.value.Value.TheVariants.{Undef};
-ghost use Rattle.asm_updates.specs.code.SummaryRanges.{SummaryRanges};
-ghost use Rattle.asm_updates.specs.code.Faults.{fault_of};
-ghost use Rattle.asm_updates.specs.code.Stands.{Stands};
-ghost use Rattle.asm_updates.specs.declared.fault.Fault.{Fault as NumberedFault};
 ghost use Rattle.asm_syntax.specs.PlainTree.{literal_value, plain_links, plain_term, plain_terms, plain_rule};
 ghost use Rattle.asm_syntax.specs.SourceTree.{Spec};
 ghost use Rattle.asm_syntax.specs.Tree as tree;
@@ -35,9 +30,8 @@ ghost use Rattle.asm_check.specs.declared.checked.NameNumber.TheVariants as numb
 ghost use Rattle.asm_reader.specs.ScriptLines.{Script};
 ghost use Rattle.asm_meaning.specs.Cases.{ScriptedByCases};
 ghost use Rattle.asm_meaning.specs.Declarations.{ProgramDeclares, function_number, numbered, program_of, rule_number, universe_number};
-ghost use Rattle.asm_meaning.specs.Does.{Outcome, Meaning, nothing, both, counted, parts, in_order, turns_of, each, one_of, following, part_and, turn_and, does};
+ghost use Rattle.asm_meaning.specs.Does.{Outcome, Meaning, nothing, both, counted, parts, in_order, turns_of, each, one_of, does};
 ghost use Rattle.asm_meaning.specs.ExhaustedLaws.{ExhaustedLaws};
-ghost use Rattle.asm_meaning.specs.code.FormedOutcomes.{Forms, Follows, IsMergedPart, IsSet, IsStoppedAt, greatest_count};
 ghost use Rattle.asm_meaning.specs.code.OutcomesBeside.{GroupingLaws, counting, all_both};
 ghost use Rattle.asm_meaning.specs.InitialLaws.{InitialLaws};
 ghost use Rattle.asm_meaning.specs.code.Intervals.{between};
@@ -45,7 +39,6 @@ ghost use Rattle.asm_meaning.specs.LawOfChoice.{ScriptedIsFree, FreeHasScript};
 ghost use Rattle.asm_meaning.specs.code.MeantTrees.{text_of};
 ghost use Rattle.asm_meaning.specs.code.NestedPaths.{Within, Behind, Nests, AllNest};
 ghost use Rattle.asm_meaning.specs.Program.{Program, Environment, Controlled, Derived, NamedRule, bound_to, declared};
-ghost use Rattle.asm_meaning.specs.code.PartSets.{IsPartSet, ends_parts, ends_turns};
 ghost use Rattle.asm_meaning.specs.Ranks.{AreDerivedRanked, IsRanked};
 ghost use Rattle.asm_meaning.specs.Run.{FreeRuns, ScriptedRuns, Specification};
 ghost use Rattle.asm_meaning.specs.Scripts.{UnrepeatedScript};
@@ -54,19 +47,13 @@ ghost use Rattle.asm_meaning.specs.code.BesideLaws.{BesideLaws, SplitLaws};
 ghost use Rattle.asm_meaning.specs.Story.{Silent, tells};
 ghost use Rattle.asm_meaning.specs.RunLaws.{RunLaws};
 ghost use Rattle.asm_meaning.specs.StoryLaws.{AreToldAlike, AreToldOutcomes, StoryLaws, ToldByCases};
-ghost use Rattle.asm_meaning.specs.Taken.{taken, found_candidate};
 ghost use Rattle.asm_meaning.specs.Targets.{location_of};
 ghost use Rattle.asm_meaning.specs.TermCases.{ValuedByCases};
 ghost use Rattle.asm_meaning.specs.code.TreeWeights.{body_weight, in_body, link_of, named_weight, rules_in, term_weight};
 ghost use Rattle.asm_meaning.specs.Value.{applied, inner, nesting, universe, value, values};
 ghost use Rattle.asm_meaning.specs.code.TermValues.{declared_value, program};
 ghost use Rattle.asm_meaning.specs.code.Weights.{TermWeightsFall, CallWeightsFall, rule_weight};
-ghost use Rattle.asm_meaning.specs.Yields.{Path, Result, Gives, Exhausted, at, beside};
-ghost use Rattle.asm_meaning.specs.declared.outcome.Forming.{Forming};
-ghost use Rattle.asm_meaning.specs.declared.part_set.PartSet.{PartSet};
-ghost use Rattle.asm_meaning.specs.declared.stopped.Stopped.{Stopped};
-ghost use Rattle.asm_meaning.specs.declared.stopped.Stopped.TheVariants.{Memory};
-ghost use Rattle.asm_meaning.specs.declared.found_candidate.FoundCandidate.TheVariants.{At, TooFew};
+ghost use Rattle.asm_meaning.specs.Yields.{Path, Result, Exhausted, at, beside};
 
 /// What a rule does under a script is what it may yield.
 pub fn scripted_is_free()
@@ -218,94 +205,6 @@ pub fn body_laws<X: Drop>()
         both (counting k (all_both (map f ys))) (each m test (i + 1) (between (i + 1) to vs)) ≡ whole }
     ensures end { (f : X → Outcome) (m : Value → ℕ → Outcome) (test : Value → Bool) (to : ℕ) (vs : List Value) (i n : ℕ) (xs : List X) (whole : Outcome) → to ≤ i →
         both (counting n (all_both (map f xs))) (each m test i (between i to vs)) ≡ whole → whole ≡ counting n (all_both (map f xs)) }
-{}
-
-/// A walk along candidates: one more that passes the test and one that doesn't, where it ends, the
-/// candidate that is taken, and what is done with it.
-pub fn candidate_laws()
-    ensures one_more { (p : Value → Bool) (vs : List Value) (i : ℕ) (v : Value) (n : ℕ) → slice_get vs i ≡ Some v → p v ≡ true →
-        n ≡ length (filter p (take i vs)) → n + 1 ≡ length (filter p (take (i + 1) vs)) }
-    ensures none_more { (p : Value → Bool) (vs : List Value) (i : ℕ) (v : Value) (n : ℕ) → slice_get vs i ≡ Some v → p v ≡ false →
-        n ≡ length (filter p (take i vs)) → n ≡ length (filter p (take (i + 1) vs)) }
-    ensures met { (p : Value → Bool) (vs : List Value) (i : ℕ) (v : Value) (n : ℕ) → slice_get vs i ≡ Some v → p v ≡ true →
-        n ≡ length (filter p (take i vs)) → At v ≡ found_candidate n (filter p vs) }
-    ensures passed { (p : Value → Bool) (vs : List Value) (i n k : ℕ) → length vs ≤ i → n ≡ length (filter p (take i vs)) → n ≤ k →
-        TooFew n ≡ found_candidate k (filter p vs) }
-    ensures taken { (k : ℕ) (vs : List Value) (v : Value) → At v ≡ found_candidate k vs → Some v ≡ taken k vs }
-    ensures taken_again { (k n : ℕ) (vs : List Value) (v : Value) → TooFew n ≡ found_candidate k vs → At v ≡ found_candidate (k % n) vs → Some v ≡ taken k vs }
-    ensures some { (n : ℕ) (vs : List Value) (v : Value) (m : Value → Outcome) (other : Outcome) → Some v ≡ taken n vs → m v ≡ one_of n vs m other }
-    ensures none { (n : ℕ) (vs : List Value) (m : Value → Outcome) (other : Outcome) → None ≡ taken n vs → other ≡ one_of n vs m other }
-{}
-
-/// What a call promises that forms an outcome: of an equal outcome, of nothing, of two parts, with
-/// an instance that is counted first, and if an error is handed on.
-pub fn following_laws<S: Drop, T: Drop>()
-    ensures forms_same { (shape : Shape) (o q : Outcome) (old new : SummaryRanges) (before after : ℕ) → o ≡ q →
-        Forms shape o old new before after → Forms shape q old new before after }
-    ensures stopped_with { (o q : Outcome) (p : Path) (stop : Stopped) → ((at : Path) → o.result ≡ Exhausted at → q.result ≡ Exhausted at) →
-        IsStoppedAt o p stop → IsStoppedAt q p stop }
-    ensures same { (shape : Shape) (r : Returned T Stopped) (o q : Outcome) (old new : Forming) → o ≡ q → Follows shape o old new r → Follows shape q old new r }
-    ensures nothing { (shape : Shape) (x : T) (o : Outcome) (made : Forming) → nothing ≡ o → Follows {T = T} shape o made made (Ok x) }
-    ensures both { (shape : Shape) (x : S) (r : Returned T Stopped) (o q : Outcome) (old mid new : Forming) → Follows {T = S} shape o old mid (Ok x) →
-        Follows shape q mid new r → Follows shape (both o q) old new r }
-    ensures counted { (shape : Shape) (r : Returned T Stopped) (o : Outcome) (old mid new : Forming) → mid.set ≡ old.set → mid.path.items ≡ old.path.items →
-        mid.instances ≡ min (old.instances + 1) greatest_count → Follows shape o mid new r → Follows shape (counted o) old new r }
-    ensures stopped { (shape : Shape) (given : Returned S Stopped) (returned : Returned T Stopped) (stop : Stopped) (o q : Outcome) (old mid new : Forming) →
-        mid.set.count ≡ old.set.count → given ≡ Err stop → IsErrAnd returned (λ again. again ≡ stop) →
-        ((p : Path) → o.result ≡ Exhausted p → q.result ≡ Exhausted p) → Follows shape o mid new given → Follows shape q old new returned }
-{}
-
-/// What has been formed from nothing is an outcome's set with its instances, or the path where it
-/// is exhausted.
-pub fn from_nothing_laws<T: Drop>()
-    ensures formed { (shape : Shape) (o : Outcome) (old new : SummaryRanges) (before after : ℕ) → Stands shape old none → before ≡ 0 → new.count ≡ count_of shape →
-        Forms shape o old new before after → IsSet shape o new after }
-    ensures set { (shape : Shape) (o : Path → Outcome) (p : Path) (old new : Forming) (r : Returned T Stopped) → Stands shape old.set none →
-        old.set.count ≡ count_of shape → old.instances ≡ 0 → old.path.items ≡ p → Follows shape (o old.path.items) old new r →
-        OnOk r (IsSet shape (o p) new.set new.instances) }
-    ensures stopped { (shape : Shape) (o : Path → Outcome) (p : Path) (old new : Forming) (r : Returned T Stopped) → Stands shape old.set none →
-        old.set.count ≡ count_of shape → old.instances ≡ 0 → old.path.items ≡ p → Follows shape (o old.path.items) old new r →
-        IfErr r (IsStoppedAt (o p) new.path.items) }
-{}
-
-/// An error that is handed on, and one that says nothing of an outcome.
-pub fn stopping_laws<S: Drop, T: Drop>()
-    ensures handed_on { (o q : Outcome) (p : Path) (given : Returned S Stopped) (returned : Returned T Stopped) (stop : Stopped) → given ≡ Err stop →
-        IsErrAnd returned (λ again. again ≡ stop) → ((s : Path) → o.result ≡ Exhausted s → q.result ≡ Exhausted s) →
-        IfErr given (IsStoppedAt o p) → IfErr returned (IsStoppedAt q p) }
-    ensures memory { (o : Outcome) (p : Path) (returned : Returned T Stopped) → IfErr returned (λ stop. stop ≡ Memory) → IfErr returned (IsStoppedAt o p) }
-{}
-
-/// What a part of a sequence, or a turn, makes of what comes after it; and what its set is, if it
-/// ends the sequence or doesn't.
-pub fn part_laws()
-    ensures good_part { (o : Outcome) (V : UpdateSet) (rest : UpdateSet → Outcome) → o.result ≡ Gives V → IsConsistent V →
-        part_and o.result o.instances rest ≡ following V o.instances (rest V) }
-    ensures faulty_part { (o : Outcome) (V : UpdateSet) (rest : UpdateSet → Outcome) → o.result ≡ Gives V → ¬ (IsConsistent V) →
-        part_and o.result o.instances rest ≡ record { result = Gives V; instances = o.instances } }
-    ensures exhausted_part { (o : Outcome) (rest : UpdateSet → Outcome) (q : Path) → o.result ≡ Exhausted q →
-        (part_and o.result o.instances rest).result ≡ Exhausted q }
-    ensures good_turn { (o : Outcome) (V : UpdateSet) (rest : UpdateSet → Outcome) → o.result ≡ Gives V → V ≢ none → IsConsistent V →
-        turn_and o.result o.instances rest ≡ following V o.instances (rest V) }
-    ensures last_turn { (o : Outcome) (V : UpdateSet) (rest : UpdateSet → Outcome) → o.result ≡ Gives V → (V ≡ none) ⊎ (¬ (IsConsistent V)) →
-        turn_and o.result o.instances rest ≡ record { result = Gives V; instances = o.instances } }
-    ensures exhausted_turn { (o : Outcome) (rest : UpdateSet → Outcome) (q : Path) → o.result ≡ Exhausted q →
-        (turn_and o.result o.instances rest).result ≡ Exhausted q }
-    ensures consistent_part { (V : UpdateSet) (part : PartSet) → IsPartSet V part → ends_parts part ≡ false → IsConsistent V }
-    ensures ending_part { (V : UpdateSet) (part : PartSet) → IsPartSet V part → ends_parts part ≡ true → ¬ (IsConsistent V) }
-    ensures some_turn { (V : UpdateSet) (part : PartSet) → IsPartSet V part → ends_turns part ≡ false → V ≢ none }
-    ensures consistent_turn { (V : UpdateSet) (part : PartSet) → IsPartSet V part → ends_turns part ≡ false → IsConsistent V }
-    ensures ending_turn { (V : UpdateSet) (part : PartSet) → IsPartSet V part → ends_turns part ≡ true → (V ≡ none) ⊎ (¬ (IsConsistent V)) }
-{}
-
-/// A part of a sequence, joined to what is there: one that is formed alone, and one whose set is
-/// known.
-pub fn sequence_laws()
-    ensures goes_upon { (shape : Shape) (o : Outcome) (U : UpdateSet) (cleared so_far joined made : SummaryRanges) (part : PartSet) (before after : ℕ) → Stands shape cleared none →
-        Stands shape so_far U → ((V W : UpdateSet) → Stands shape so_far V → Stands shape made W → Stands shape joined (merge V W)) →
-        ((V : UpdateSet) → Stands shape made V → IsPartSet V part) → Forms shape o cleared made before after → IsMergedPart shape o U joined part before after }
-    ensures goes_by { (shape : Shape) (o : Outcome) (U V : UpdateSet) (joined : SummaryRanges) (part : PartSet) (n : ℕ) → o ≡ record { result = Gives V; instances = 0 } →
-        n ≤ greatest_count → IsPartSet V part → Stands shape joined (merge U V) → IsMergedPart shape o U joined part n n }
 {}
 
 /// What a name's number stands for: elements and functions that are in range, derived functions and

@@ -9,8 +9,8 @@ ghost use Rattle.asm_explore.specs.code.ResolvedConditions.{IsSpecified};
 ghost use Rattle.asm_explore.specs.code.StepLeads.{situation_of};
 ghost use Rattle.asm_random.specs.code.ResolvedRuns.{shape_in, specification_in};
 
+use asm_eval::Choices;
 use asm_explore::{ChoicePoint, ResolvedQuestion, choices_of_step};
-use asm_meaning::Choices;
 use asm_reader::Picks;
 use asm_state::state::State;
 use std::alloc::{AllocError, Global};

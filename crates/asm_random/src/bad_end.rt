@@ -8,8 +8,8 @@ ghost use Rattle.asm_random.specs.code.ResolvedRuns.{CanRun, crowds_in, rests_in
 
 use crate::position::Position;
 use crate::stepping::step_from;
+use asm_eval::Choices;
 use asm_explore::{Fault, ResolvedQuestion};
-use asm_meaning::Choices;
 use asm_meaning::laws::run_laws;
 use asm_reader::Picks;
 use std::alloc::{AllocError, Global};

@@ -11,9 +11,9 @@ ghost use Rattle.asm_random.specs.code.ResolvedRuns.{shape_in, specification_in}
 use crate::asked_in::asked_in;
 use crate::draft::{Draft, Numbers};
 use crate::random_source::RandomSource;
+use asm_eval::Choices;
 use asm_explore::laws::making_laws;
 use asm_explore::{ChoicePoint, ResolvedQuestion};
-use asm_meaning::Choices;
 use asm_meaning::laws::told_outcomes;
 use asm_state::state::State;
 use std::alloc::{AllocError, Global};

@@ -8,8 +8,8 @@ use crate::drawn_step::draw_step;
 use crate::position::Position;
 use crate::random_source::RandomSource;
 use crate::stepping::step_from;
+use asm_eval::Choices;
 use asm_explore::{Fault, ResolvedQuestion};
-use asm_meaning::Choices;
 use asm_meaning::laws::run_laws;
 use std::alloc::{AllocError, Global};
 

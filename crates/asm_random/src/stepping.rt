@@ -8,8 +8,8 @@ ghost use Rattle.asm_random.specs.code.ResolvedRuns.{IsDead, IsPassed, right_in,
 
 use crate::deadlock::is_deadlock;
 use crate::position::Position;
+use asm_eval::Choices;
 use asm_explore::{Fault, Machine, ResolvedQuestion, is_same_state};
-use asm_meaning::Choices;
 use asm_reader::Picks;
 use asm_state::state::State;
 use asm_step::{ResolvedSpecification, Step, make_step};

@@ -2,9 +2,9 @@
 ghost use Rattle.std.specs.Prelude.{◌≡◌};
 ghost use Rattle.asm_state.specs.Signature.{Shape};
 ghost use Rattle.asm_meaning.specs.Does as does;
-ghost use Rattle.asm_meaning.specs.code.FormedOutcomes.{Follows, IsSet};
+ghost use Rattle.asm_eval.specs.code.FormedOutcomes.{Follows, IsSet};
 
-use asm_meaning::{Forming, Stopped};
+use asm_eval::{Forming, Stopped};
 use asm_updates::summary::Summary;
 
 /// Adds a region's set, and counts its instances. If nothing was formed before, the set is taken as

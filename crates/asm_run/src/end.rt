@@ -2,7 +2,7 @@
 ghost use Rattle.std.specs.Prelude.{◌≡◌};
 ghost use Rattle.asm_run.specs.Ends.{kind_of, step_of};
 
-use asm_meaning::Path;
+use asm_eval::Path;
 use asm_state::arguments::Arguments;
 use asm_state::word::Word;
 

@@ -4,7 +4,7 @@ ghost use Rattle.asm_state.specs.Updates.{none};
 ghost use Rattle.asm_updates.specs.code.Stands.{Stands};
 ghost use Rattle.asm_run.specs.code.Hands.{IsNewHand, logs_of, parts_of};
 
-use asm_meaning::Forming;
+use asm_eval::Forming;
 use asm_state::signature::Signature;
 use asm_striped::{StripeSeat, Striped};
 use std::alloc::{AllocError, Global};

@@ -21,7 +21,7 @@ use asm_eval::laws::opening_laws;
 use asm_eval::open::{Opened, open_piece};
 use asm_eval::piece::{Piece, form_piece};
 use asm_eval::piece_positions::positions_of;
-use asm_meaning::{Path, Stopped};
+use asm_eval::{Path, Stopped};
 use asm_pool::Job;
 use asm_reader::Picks;
 use asm_striped::Striped;

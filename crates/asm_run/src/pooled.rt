@@ -1,7 +1,7 @@
 //! Regions worked by many workers.
-ghost use Rattle.std.specs.Prelude.{◌≡◌, length, IfErr, IfOk, IsTrue, OnOk};
+ghost use Rattle.std.specs.Prelude.{◌≡◌, [], length, IfErr, IfOk, IsTrue, OnOk};
 ghost use Rattle.asm_state.specs.Signature.{count_of};
-ghost use Rattle.asm_meaning.specs.code.FormedOutcomes.{Follows, IsFormed, IsSet, IsStoppedAt};
+ghost use Rattle.asm_eval.specs.code.FormedOutcomes.{Follows, IsFormed, IsSet, IsStoppedAt};
 ghost use Rattle.asm_code.specs.code.RuleMeaning.{IsSoundRule};
 ghost use Rattle.asm_code.specs.code.RuleViews.{rule_of};
 ghost use Rattle.asm_eval.specs.code.Frames.{IsSoundFrame};
@@ -18,11 +18,11 @@ use asm_code::rule_code::RuleCode;
 use asm_eval::evaluation::Evaluation;
 use asm_eval::form::form;
 use asm_eval::frame::Frame;
-use asm_eval::outcome::whole;
 use asm_eval::piece::Piece;
 use asm_eval::regions::{FormedBy, OnThisThread, RegionOutcome};
+use asm_eval::rule_outcome::whole;
+use asm_eval::{Choices, Forming, Outcome, Part, Path, Stopped, View};
 use asm_limits::run_limits::Limits;
-use asm_meaning::{Choices, Forming, Outcome, Part, Path, Stopped, View};
 use asm_pool::{Gate, PoolError};
 use asm_reader::Picks;
 use asm_state::signature::Signature;
@@ -166,6 +166,7 @@ impl<'r, R: Threads + Sync, G: Gate + Sync> Pooled<'r, R, G> {
         requires fits { forming.old.set.count ≡ count_of (shape_in resolved.now) }
         ensures count { forming.new.set.count ≡ forming.old.set.count }
         ensures formed { OnOk result (IsSet (shape_in resolved.now) (step_in resolved.now (P.script choices.now.script.now) choices.now.step state.now) forming.new.set forming.new.instances) }
+        ensures path { OnOk result (forming.new.path.items ≡ []) }
         ensures exhausted { IfErr result (IsStoppedAt (step_in resolved.now (P.script choices.now.script.now) choices.now.step state.now) forming.new.path.items) }
     {
         if self.shares.workers == 1 {

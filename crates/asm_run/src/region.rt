@@ -1,15 +1,15 @@
 //! The outcome of a region, by rounds.
 ghost use Rattle.std.specs.Prelude.{All, IfOk};
-ghost use Rattle.asm_meaning.specs.code.FormedOutcomes.{IsFormed};
+ghost use Rattle.asm_eval.specs.code.FormedOutcomes.{IsFormed};
 ghost use Rattle.asm_eval.specs.code.OpenedPieces.{pieces_yield};
 ghost use Rattle.asm_eval.specs.code.Pieces.{IsPiece};
 ghost use Rattle.asm_eval.specs.code.Evaluation.{evaluation_shape};
 
 use crate::hand::{join_hands, split_hands};
 use crate::rounds::{Cutting, RegionWork, RoundsSoFar, work_rounds};
+use asm_eval::Outcome;
 use asm_eval::evaluation::Evaluation;
 use asm_eval::piece::Piece;
-use asm_meaning::Outcome;
 use asm_pool::{Gate, PoolError};
 use asm_reader::Picks;
 use asm_striped::Striped;

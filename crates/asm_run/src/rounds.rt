@@ -18,10 +18,10 @@ ghost use Rattle.asm_run.specs.code.Rounds.{Holds, IsRound, outs_of, least_path,
 use crate::hand::RegionHand;
 use crate::job::{RegionJob, RegionOut};
 use crate::work_budget::{RoundWork, workers_for};
+use asm_eval::Path;
 use asm_eval::evaluation::Evaluation;
 use asm_eval::piece::Piece;
 use asm_eval::shared::views_and_pieces_are_shared;
-use asm_meaning::Path;
 use asm_pool::{Gate, PoolError, work_by};
 use asm_reader::Picks;
 use asm_striped::Striped;

@@ -10,7 +10,7 @@ use crate::location_texts::LocationTexts;
 use crate::pooled::Pooled;
 use crate::step_end::end_at_fault;
 use crate::trace::push_step;
-use asm_meaning::{Choices, Forming, Path, Stopped};
+use asm_eval::{Choices, Forming, Path, Stopped};
 use asm_pool::Gate;
 use asm_reader::Picks;
 use asm_state::state::State;

@@ -14,7 +14,7 @@ use crate::pooled::Pooled;
 use crate::sink::Sink;
 use crate::step::make_step;
 use crate::write_all::write_all;
-use asm_meaning::{Choices, Forming};
+use asm_eval::{Choices, Forming};
 use asm_pool::Gate;
 use asm_reader::Picks;
 use asm_state::state::State;

@@ -12,8 +12,8 @@ ghost use Rattle.asm_eval.specs.code.Pieces.{IsPiece};
 
 use asm_code::code::Code;
 use asm_code::rule_code::{RuleCode, TargetCode};
+use asm_eval::Part;
 use asm_eval::piece::Piece;
-use asm_meaning::Part;
 use asm_state::signature::Signature;
 
 /// A region of fewer nodes of rules and terms is evaluated before another thread had its part of

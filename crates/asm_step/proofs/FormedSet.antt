@@ -1,5 +1,4 @@
 -- Free. What a step forms over a state.
---     seen_alone       over the empty set a view shows the state
 --     formed_alone     from the empty set and no instances on, what is formed is what the step
 --                      yields
 --     stopped_alone    what stops one outcome stops an equal one
@@ -15,18 +14,10 @@ use Rattle.asm_state.proofs.UpdateLemmas.UnionsAndMerges.{union_laws}
 use Rattle.asm_updates.specs.code.SummaryRanges.{SummaryRanges}
 use Rattle.asm_updates.specs.code.Stands.{Stands}
 use Rattle.asm_meaning.specs.Does.{Outcome}
-use Rattle.asm_meaning.specs.code.FormedOutcomes.{Forms, IsSet, IsStoppedAt, greatest_count}
-use Rattle.asm_meaning.specs.declared.stopped.Stopped.{Stopped}
-use Rattle.asm_meaning.specs.declared.stopped.Stopped.TheVariants as stopped
+use Rattle.asm_eval.specs.code.FormedOutcomes.{Forms, IsSet, IsStoppedAt, greatest_count}
+use Rattle.asm_eval.specs.declared.stopped.Stopped.{Stopped}
+use Rattle.asm_eval.specs.declared.stopped.Stopped.TheVariants as stopped
 use Rattle.asm_meaning.specs.Yields.{Path}
-
-none_consistent : IsConsistent none
-none_consistent = record { one_value = λ l v w h k. absurd (member_laws.of_none l v h); no_stray = λ f v. member_laws.of_none (Stray f) v }
-
-pub seen_alone : (signature shape : Shape) (over : SummaryRanges) (contents : List Value) (A : State) → signature ≡ shape → Stands signature over none
-    → ((U : UpdateSet) → Stands signature over U → IsConsistent U → A ≡ fire (state_of signature contents) U) → A ≡ state_of shape contents
-seen_alone signature shape over contents A same empty seen =
-    seen none empty none_consistent ∙ fire_laws.of_none (state_of signature contents) ∙ ap (λ s. state_of s contents) same
 
 stands_alone : (shape : Shape) (summary : SummaryRanges) (U : UpdateSet) → Stands shape summary (together none U) → Stands shape summary U
 stands_alone shape summary U h = subst (λ V. Stands shape summary V) (union_laws.unit U) h

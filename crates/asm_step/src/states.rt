@@ -7,7 +7,7 @@ ghost use Rattle.asm_step.specs.code.Steps.{HasMainRule, shape_in, specification
 
 use crate::resolved_specification::ResolvedSpecification;
 use crate::step::{Step, make_step};
-use asm_meaning::Choices;
+use asm_eval::Choices;
 use asm_meaning::laws::run_laws;
 use asm_reader::Picks;
 use asm_state::state::State;

@@ -1,7 +1,7 @@
 //! A step of a run.
-ghost use Rattle.std.specs.Prelude.{◌≡◌, length, IfErr, IfOk, OnOk};
+ghost use Rattle.std.specs.Prelude.{◌≡◌, [], length, IfErr, IfOk, OnOk};
 ghost use Rattle.asm_state.specs.Signature.{count_of};
-ghost use Rattle.asm_meaning.specs.code.FormedOutcomes.{IsSet, IsStoppedAt};
+ghost use Rattle.asm_eval.specs.code.FormedOutcomes.{IsSet, IsStoppedAt};
 ghost use Rattle.asm_step.specs.code.Steps.{Comes, HasMainRule, shape_in, step_in};
 
 use crate::resolved_specification::ResolvedSpecification;
@@ -9,7 +9,7 @@ use asm_eval::evaluation::Evaluation;
 use asm_eval::form::form;
 use asm_eval::frame::Frame;
 use asm_eval::regions::{OnThisThread, Regions};
-use asm_meaning::{Choices, Forming, Path, Stopped, View};
+use asm_eval::{Choices, Forming, Path, Stopped, View};
 use asm_reader::Picks;
 use asm_resolve::laws::resolving_laws;
 use asm_state::state::State;
@@ -28,8 +28,8 @@ pub enum Step {
     Exhausted(Path),
 }
 
-/// Forms what the step from a state yields with these choices, instead of what was formed before.
-/// Each region is offered to `regions` first.
+/// Forms what the step from a state yields with these choices, instead of what was formed before,
+/// and stands at the main rule's body again. Regions may be offered to `regions`.
 pub fn form_step<P: Picks, G: Regions<P>>(
     alloc: Global,
     regions: &mut G,
@@ -45,6 +45,7 @@ pub fn form_step<P: Picks, G: Regions<P>>(
     ensures ready { G.is_ready regions.new }
     ensures count { forming.new.set.count ≡ forming.old.set.count }
     ensures formed { OnOk result (IsSet (shape_in resolved.now) (step_in resolved.now (P.script choices.now.script.now) choices.now.step state.now) forming.new.set forming.new.instances) }
+    ensures path { OnOk result (forming.new.path.items ≡ []) }
     ensures exhausted { IfErr result (IsStoppedAt (step_in resolved.now (P.script choices.now.script.now) choices.now.step state.now) forming.new.path.items) }
 {
     resolving_laws();

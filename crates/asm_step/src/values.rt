@@ -4,13 +4,14 @@ ghost use Rattle.asm_syntax.specs.PlainTree.{plain_term};
 ghost use Rattle.asm_syntax.specs.code.Views.{spec_of, term_of};
 ghost use Rattle.asm_check.specs.Shapes.{shape_of};
 ghost use Rattle.asm_meaning.specs.Program.{nothing_bound};
-ghost use Rattle.asm_meaning.specs.code.TermValues.{program, shown};
+ghost use Rattle.asm_meaning.specs.code.TermValues.{program};
+ghost use Rattle.asm_eval.specs.code.ShownViews.{shown};
 ghost use Rattle.asm_meaning.specs.Value as spec;
 
 use asm_check::Checked;
+use asm_eval::View;
 use asm_eval::frame::Frame;
 use asm_eval::value::value;
-use asm_meaning::View;
 use asm_resolve::bodies::Bodies;
 use asm_resolve::resolve::resolve;
 use asm_resolve::scope::Scope;

@@ -5,7 +5,7 @@ ghost use Rattle.asm_syntax.specs.code.Views.{spec_of};
 ghost use Rattle.asm_check.specs.Shapes.{shape_of};
 
 use asm_check::Checked;
-use asm_meaning::View;
+use asm_eval::View;
 use asm_state::state::State;
 use asm_syntax::rule::Rule;
 use asm_updates::summary::Summary;

@@ -4,7 +4,7 @@ ghost use Rattle.asm_reader.specs.ScriptLines.{no_lines};
 use crate::checked_text::{Unchecked, checked_of_both};
 use crate::plain::{Entry, FIVE, ONE, Plain, TWO, has_entries};
 use asm_check::Checked;
-use asm_meaning::Outcome;
+use asm_eval::Outcome;
 use asm_reader::Picks;
 use std::alloc::Global;
 use std::sync::atomic::{AtomicU64, Ordering};

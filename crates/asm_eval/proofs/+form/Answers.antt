@@ -9,13 +9,13 @@ use Rattle.asm_state.specs.Words.{value_of_code}
 use Rattle.asm_state.specs.code.Codes as values
 use Rattle.asm_meaning.specs.code.Intervals.{between}
 use Rattle.asm_meaning.specs.Does.{Outcome}
-use Rattle.asm_meaning.specs.code.FormedOutcomes.{Follows, Forms, IsMergedPart}
+use Rattle.asm_eval.specs.code.FormedOutcomes.{Follows, Forms, IsMergedPart}
 use Rattle.asm_meaning.specs.Taken.{taken}
-use Rattle.asm_meaning.specs.code.TermValues.{shown}
-use Rattle.asm_meaning.specs.declared.outcome.Forming.{Forming}
+use Rattle.asm_eval.specs.code.ShownViews.{shown}
+use Rattle.asm_eval.specs.declared.outcome.Forming.{Forming}
 use Rattle.asm_meaning.specs.Yields.{Path, at, Exhausted}
-use Rattle.asm_meaning.proofs.FollowsLaws.{following_laws-same as follows_same, following_laws-nothing as follows_nothing, following_laws-both as follows_both, following_laws-counted as follows_counted, following_laws-stopped as follows_stopped, following_laws-forms_same as forms_same}
-use Rattle.asm_meaning.proofs.Sequences.{sequence_laws-goes_upon as goes_upon, part_laws-consistent_part as consistent_part, part_laws-ending_part as ending_part, part_laws-some_turn as some_turn, part_laws-consistent_turn as consistent_turn, part_laws-ending_turn as ending_turn, stopping_laws-memory as stopped_for_memory}
+use Rattle.asm_eval.proofs.FollowsLaws.{following_laws-same as follows_same, following_laws-nothing as follows_nothing, following_laws-both as follows_both, following_laws-counted as follows_counted, following_laws-stopped as follows_stopped, following_laws-forms_same as forms_same}
+use Rattle.asm_eval.proofs.SequenceLaws.{none_consistent, sequence_laws-goes_upon as goes_upon, part_laws-consistent_part as consistent_part, part_laws-ending_part as ending_part, part_laws-some_turn as some_turn, part_laws-consistent_turn as consistent_turn, part_laws-ending_turn as ending_turn, stopping_laws-memory as stopped_for_memory}
 use Rattle.asm_code.specs.code.CodeViews.{code_of}
 use Rattle.asm_eval.specs.code.Frames.{readings_of}
 use Rattle.asm_reader.specs.declared.picks.Picks.{Ghosts}
@@ -34,7 +34,7 @@ use Rattle.asm_eval.specs.code.Evaluation.{evaluation_shape, evaluation_state, e
 use Rattle.asm_eval.proofs.RuleYields.{skip_yields, assign_yields, par_yields, seq_yields, if_is, if_yes, if_no, if_left_out, let_is, let_with, choose_is, choose_some, choose_none, call_is, call_with, iterate_yields, forall_yields, next_yields, none_yields, exhausted_yields, size_here, sound_part, size_of_part, universe_here}
 use Rattle.asm_eval.proofs.SpanElements.{left_begins, left_same, left_ends, next_of, between_block, none_between, none_more, one_more, codes_between}
 use Rattle.asm_eval.proofs.CodeSequences.{parts_left, turns_left, part_goes_on, part_ends, part_stops, parts_end, turn_goes_on, turn_ends, turn_stops, turns_stop, iterate_yields_turns}
-use Rattle.asm_eval.proofs.SequencesUpon.{none_consistent, upon_begins, upon_same, alone_forms, alone_stops, popped}
+use Rattle.asm_eval.proofs.SequencesUpon.{upon_begins, upon_same, alone_forms, alone_stops, popped}
 use Rattle.asm_eval.proofs.SingleUpdates.{single_shown, single_upon, goes_by_none, goes_by_one}
 use Rattle.asm_eval.specs.declared.one_update.OneUpdate.TheVariants as single
 use Rattle.std.proofs.lemmas.Result.{on_ok_weaker}

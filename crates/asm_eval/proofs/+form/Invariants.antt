@@ -3,9 +3,9 @@ use Rattle.std.specs.Prelude.{Result, option_map}
 use Rattle.asm_state.specs.Signature.{count_of}
 use Rattle.asm_state.specs.Updates.{UpdateSet, IsConsistent, fire}
 use Rattle.asm_updates.specs.code.Stands.{Stands}
-use Rattle.asm_meaning.specs.declared.outcome.Forming.{Forming}
-use Rattle.asm_meaning.specs.declared.stopped.Stopped.{Stopped}
-use Rattle.asm_meaning.specs.code.FormedOutcomes.{Follows}
+use Rattle.asm_eval.specs.declared.outcome.Forming.{Forming}
+use Rattle.asm_eval.specs.declared.stopped.Stopped.{Stopped}
+use Rattle.asm_eval.specs.code.FormedOutcomes.{Follows}
 use Rattle.asm_meaning.specs.code.Intervals.{between}
 use Rattle.asm_code.specs.code.CodeViews.{code_of}
 use Rattle.asm_code.specs.code.Readings.{universe_at}

@@ -7,7 +7,7 @@ use Rattle.asm_state.specs.declared.operation.Op.{Op}
 use Rattle.asm_state.specs.declared.operation.Op.TheVariants.{Add, Remainder, Equal}
 use Rattle.asm_state.specs.declared.value.Value.TheVariants.{Number}
 use Rattle.asm_state.specs.Words.{value_of_code}
-use Rattle.asm_meaning.specs.code.TermValues.{shown}
+use Rattle.asm_eval.specs.code.ShownViews.{shown}
 use Rattle.asm_code.specs.code.CodeViews.{code_of}
 use Rattle.asm_code.specs.code.Readings.{always, at_position, reading}
 use Rattle.asm_code.specs.code.Sizes.{size, sizes}

@@ -2,7 +2,7 @@ use Rattle.std.proofs.Common.{◌≡◌, ◌+◌, ◌-◌, ◌*◌, ◌<◌, ◌
 use Rattle.std.specs.List.{list_any, list_all}
 use Rattle.asm_state.specs.declared.value.Value.TheVariants.{Undef}
 use Rattle.std.specs.Prelude.{false, true, ◌∷◌}
-use Rattle.asm_meaning.specs.code.TermValues.{shown}
+use Rattle.asm_eval.specs.code.ShownViews.{shown}
 use Rattle.asm_meaning.specs.Value.{is_true}
 use Rattle.asm_code.specs.code.CodeViews.{code_of, codes_of, link_of, links_of}
 use Rattle.asm_code.specs.code.CodeTree as tree

@@ -7,8 +7,8 @@ use Rattle.std.specs.Prelude.{◌≡◌, ◌<◌, ℕ, Bool, List, ◌∷◌, sl
 use Rattle.asm_state.specs.declared.value.Value.{Value}
 use Rattle.asm_state.specs.declared.value.Value.TheVariants.{Undef}
 use Rattle.asm_meaning.specs.Value.{is_true}
-use Rattle.asm_meaning.specs.code.TermValues.{shown}
-use Rattle.asm_meaning.specs.declared.view.View.{View}
+use Rattle.asm_eval.specs.code.ShownViews.{shown}
+use Rattle.asm_eval.specs.declared.view.View.{View}
 use Rattle.asm_code.specs.code.CodeTree.{Code}
 use Rattle.asm_code.specs.code.Readings.{always, reading}
 use Rattle.asm_eval.specs.code.Frames.{readings_of}

@@ -17,12 +17,12 @@ use Rattle.asm_meaning.specs.Does.{Outcome, parts, in_order, each}
 use Rattle.asm_meaning.specs.code.Intervals.{between}
 use Rattle.asm_meaning.specs.Targets.{update}
 use Rattle.asm_meaning.specs.Program.{nothing_bound}
-use Rattle.asm_meaning.specs.code.TermValues.{shown}
+use Rattle.asm_eval.specs.code.ShownViews.{shown}
 use Rattle.asm_meaning.specs.Yields.{Path, Gives}
 use Rattle.asm_meaning.specs.Yields as yields
-use Rattle.asm_meaning.specs.declared.choices.Choices.{Choices}
-use Rattle.asm_meaning.specs.declared.outcome.Forming.{Forming}
-use Rattle.asm_meaning.specs.declared.view.View.{View}
+use Rattle.asm_eval.specs.declared.choices.Choices.{Choices}
+use Rattle.asm_eval.specs.declared.outcome.Forming.{Forming}
+use Rattle.asm_eval.specs.declared.view.View.{View}
 use Rattle.asm_code.specs.code.CodeTree as codes
 use Rattle.asm_code.specs.code.CodeViews.{code_of}
 use Rattle.asm_code.specs.code.Readings.{always, reading, universe_at}

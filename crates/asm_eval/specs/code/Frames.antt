@@ -6,8 +6,8 @@
 use Rattle.std.specs.Prelude.{◌<◌, ◌+◌, ◌++◌, ℕ, List, [], ◌∷◌, map, Option, Some, None}
 use Rattle.asm_state.specs.Signature.{Shape, count_of}
 use Rattle.asm_meaning.specs.Value.{Reading}
-use Rattle.asm_meaning.specs.code.TermValues.{shown}
-use Rattle.asm_meaning.specs.declared.view.View.{View}
+use Rattle.asm_eval.specs.code.ShownViews.{shown}
+use Rattle.asm_eval.specs.declared.view.View.{View}
 use Rattle.asm_state.specs.declared.value.Value.{Value}
 use Rattle.asm_state.specs.Words.{value_of_code}
 use Rattle.asm_code.specs.code.CodeTree as tree

@@ -7,9 +7,9 @@ use Rattle.asm_state.specs.Signature.{Shape, count_of, location_at}
 use Rattle.asm_state.specs.Updates.{one}
 use Rattle.asm_state.specs.declared.value.Value.{Value}
 use Rattle.asm_meaning.specs.Does.{Outcome, nothing}
-use Rattle.asm_meaning.specs.code.TermValues.{shown}
+use Rattle.asm_eval.specs.code.ShownViews.{shown}
 use Rattle.asm_meaning.specs.Yields.{Path, Gives}
-use Rattle.asm_meaning.specs.declared.view.View.{View}
+use Rattle.asm_eval.specs.declared.view.View.{View}
 use Rattle.asm_code.specs.code.RuleMeaning.{meaning}
 use Rattle.asm_code.specs.code.RuleTree.{RuleCode}
 use Rattle.asm_eval.specs.code.Frames.{readings_of}

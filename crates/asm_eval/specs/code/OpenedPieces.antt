@@ -1,19 +1,18 @@
 -- Bridge to the code. What a piece of a resolved rule is opened to, and that opening loses nothing.
 --     is_closed R       a rule that isn't opened
---     IsCut cut         a span has at most `cut` positions
+--     IsCutPart, IsCut  a span has at most `cut` positions
 --     Opens             the pieces that a piece is opened to have just the works that its work is
 --                       opened to
 --     AreParts          pieces yield together what an outcome is, and nothing is lost or counted
 --                       twice
 --     OpeningLaws       what a piece is opened to are its parts, and always the same works
-use Rattle.std.specs.Prelude.{◌≡◌, ◌<◌, ℕ, Bool, true, false, List, [], map, All, Option, Some, None}
+use Rattle.std.specs.Prelude.{◌≡◌, ◌<◌, ◌≤◌, ◌+◌, ℕ, Bool, true, false, List, [], map, All, Option, Some, None}
 use Rattle.asm_reader.specs.declared.picks.Picks.{Ghosts}
 use Rattle.asm_state.specs.Signature.{Shape}
 use Rattle.asm_meaning.specs.Does.{Outcome}
 use Rattle.asm_meaning.specs.code.OutcomesBeside.{counting, all_both}
-use Rattle.asm_meaning.specs.code.Intervals.{IsCutPart}
-use Rattle.asm_meaning.specs.declared.part.Part.{Part}
-use Rattle.asm_meaning.specs.declared.part.Part.TheVariants as part
+use Rattle.asm_eval.specs.declared.part.Part.{Part}
+use Rattle.asm_eval.specs.declared.part.Part.TheVariants as part
 use Rattle.asm_code.specs.code.RuleTree.{RuleCode, Skip, Assign, Par, Seq, If, Let, Forall, Choose, Iterate, Call}
 use Rattle.asm_code.specs.code.RuleViews.{rule_of}
 use Rattle.asm_eval.specs.code.Opening.{Work, work_of, opened}
@@ -40,6 +39,10 @@ is_closed (Call P to ts) = false
 abbrev pub is_closed_part : RuleCode → Part → Bool
 is_closed_part R part.Whole = is_closed R
 is_closed_part R (part.Span from to) = false
+
+abbrev pub IsCutPart : ℕ → Part → Type 0
+IsCutPart cut part.Whole = Unit {0}
+IsCutPart cut (part.Span from to) = to ≤ from + cut
 
 abbrev pub IsCut : ℕ → Piece → Type 0
 IsCut cut piece = IsCutPart cut piece.part

@@ -16,8 +16,8 @@ use Rattle.asm_meaning.specs.code.Intervals.{between}
 use Rattle.asm_meaning.specs.Taken.{taken}
 use Rattle.asm_meaning.specs.Value.{Reading, is_true}
 use Rattle.asm_meaning.specs.Yields.{Path, at}
-use Rattle.asm_meaning.specs.declared.part.Part.{Part}
-use Rattle.asm_meaning.specs.declared.part.Part.TheVariants as part
+use Rattle.asm_eval.specs.declared.part.Part.{Part}
+use Rattle.asm_eval.specs.declared.part.Part.TheVariants as part
 use Rattle.asm_code.specs.code.CodeTree.{Code}
 use Rattle.asm_code.specs.code.Readings.{always, reading, universe_at}
 use Rattle.asm_code.specs.code.RuleMeaning.{Locations, result_locations, result_readings, optional_target_location, named_readings, passes, passing}

@@ -9,8 +9,8 @@ use Rattle.asm_reader.specs.declared.picks.Picks.{Ghosts}
 use Rattle.asm_state.specs.Signature.{Shape}
 use Rattle.asm_meaning.specs.Does.{Outcome, nothing}
 use Rattle.asm_meaning.specs.Yields.{Path}
-use Rattle.asm_meaning.specs.declared.part.Part.{Part}
-use Rattle.asm_meaning.specs.declared.part.Part.TheVariants as part
+use Rattle.asm_eval.specs.declared.part.Part.{Part}
+use Rattle.asm_eval.specs.declared.part.Part.TheVariants as part
 use Rattle.asm_code.specs.code.Readings.{universe_at}
 use Rattle.asm_code.specs.code.RuleMeaning.{IsSoundRule}
 use Rattle.asm_code.specs.code.RuleTree.{RuleCode, Forall}

@@ -10,11 +10,11 @@ use Rattle.std.proofs.Common.{Bor, MutBor, Global}
 use Rattle.asm_state.specs.Signature.{Shape, count_of}
 use Rattle.asm_reader.specs.ScriptLines.{Script}
 use Rattle.asm_meaning.specs.Does.{Outcome}
-use Rattle.asm_meaning.specs.code.FormedOutcomes.{Follows}
-use Rattle.asm_meaning.specs.declared.choices.Choices.{Choices}
-use Rattle.asm_meaning.specs.declared.outcome.Forming.{Forming}
-use Rattle.asm_meaning.specs.declared.stopped.Stopped.{Stopped}
-use Rattle.asm_meaning.specs.declared.view.View.{View}
+use Rattle.asm_eval.specs.code.FormedOutcomes.{Follows}
+use Rattle.asm_eval.specs.declared.choices.Choices.{Choices}
+use Rattle.asm_eval.specs.declared.outcome.Forming.{Forming}
+use Rattle.asm_eval.specs.declared.stopped.Stopped.{Stopped}
+use Rattle.asm_eval.specs.declared.view.View.{View}
 use Rattle.asm_code.specs.code.RuleMeaning.{IsSoundRule}
 use Rattle.asm_code.specs.code.RuleViews.{rule_of}
 use Rattle.asm_code.specs.declared.rule_code.RuleCode.{RuleCode}

@@ -21,10 +21,10 @@ use Rattle.asm_state.proofs.UpdateLemmas.Summaries.{fire_laws}
 use Rattle.asm_state.proofs.UpdateLemmas.Updates.{test_laws}
 use Rattle.asm_updates.specs.code.SummaryRanges.{SummaryRanges}
 use Rattle.asm_updates.specs.code.Stands.{Stands}
-use Rattle.asm_meaning.specs.code.PartSets.{IsPartSet, ends_parts, ends_turns}
+use Rattle.asm_eval.specs.code.PartSets.{IsPartSet, ends_parts, ends_turns}
 use Rattle.asm_meaning.specs.Yields.{Path, Result, Gives, Exhausted, at}
-use Rattle.asm_meaning.specs.declared.part_set.PartSet.{PartSet}
-use Rattle.asm_meaning.proofs.Sequences.{part_laws-consistent_part as consistent_part, part_laws-ending_part as ending_part, part_laws-some_turn as some_turn, part_laws-consistent_turn as consistent_turn, part_laws-ending_turn as ending_turn}
+use Rattle.asm_eval.specs.declared.part_set.PartSet.{PartSet}
+use Rattle.asm_eval.proofs.SequenceLaws.{part_laws-consistent_part as consistent_part, part_laws-ending_part as ending_part, part_laws-some_turn as some_turn, part_laws-consistent_turn as consistent_turn, part_laws-ending_turn as ending_turn}
 use Rattle.asm_code.specs.code.BoundValues.{arguments_of, bound_of}
 use Rattle.asm_code.specs.code.CodeTree as codes
 use Rattle.asm_code.specs.code.Readings.{reading}

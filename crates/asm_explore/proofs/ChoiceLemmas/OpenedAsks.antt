@@ -11,12 +11,12 @@ use Rattle.asm_reader.specs.declared.picks.Picks.{Ghosts}
 use Rattle.asm_state.specs.Location.{State}
 use Rattle.asm_state.specs.Signature.{Shape, count_of}
 use Rattle.asm_meaning.specs.Does as does
-use Rattle.asm_meaning.specs.code.FormedOutcomes.{IsFormed}
+use Rattle.asm_eval.specs.code.FormedOutcomes.{IsFormed}
 use Rattle.asm_meaning.specs.Value.{Reading}
 use Rattle.asm_meaning.specs.Yields.{Path}
-use Rattle.asm_meaning.specs.declared.outcome.Outcome.{Outcome}
-use Rattle.asm_meaning.specs.declared.outcome.Outcome.TheVariants as outcome
-use Rattle.asm_meaning.specs.declared.part.Part.TheVariants as part
+use Rattle.asm_eval.specs.declared.outcome.Outcome.{Outcome}
+use Rattle.asm_eval.specs.declared.outcome.Outcome.TheVariants as outcome
+use Rattle.asm_eval.specs.declared.part.Part.TheVariants as part
 use Rattle.asm_code.specs.code.RuleMeaning.{Locations, rule_size}
 use Rattle.asm_code.specs.code.RuleTree.{RuleCode, Skip, Assign, Par, Seq, If, Let, Forall, Choose, Iterate, Call}
 use Rattle.asm_code.specs.code.RuleViews.{rule_of}

@@ -15,9 +15,9 @@ use Rattle.asm_updates.specs.code.Stands.{Stands}
 use Rattle.asm_meaning.specs.Does.{Outcome}
 use Rattle.asm_meaning.specs.Value.{Reading}
 use Rattle.asm_meaning.specs.Yields.{Path, Result, Gives, Exhausted}
-use Rattle.asm_meaning.specs.code.FormedOutcomes.{IsFormed, IsSet}
-use Rattle.asm_meaning.specs.declared.outcome.Outcome.{Outcome as FormedOutcome}
-use Rattle.asm_meaning.specs.declared.outcome.Outcome.TheVariants as formed
+use Rattle.asm_eval.specs.code.FormedOutcomes.{IsFormed, IsSet}
+use Rattle.asm_eval.specs.declared.outcome.Outcome.{Outcome as FormedOutcome}
+use Rattle.asm_eval.specs.declared.outcome.Outcome.TheVariants as formed
 use Rattle.asm_code.specs.code.RuleMeaning.{Locations, meaning}
 use Rattle.asm_code.specs.code.RuleTree as tree
 use Rattle.asm_code.specs.code.RuleViews.{rule_of, rules_of}

@@ -15,12 +15,12 @@ use Rattle.asm_state.specs.Updates.{UpdateSet, fire, merge}
 use Rattle.asm_state.specs.declared.value.Value.{Value}
 use Rattle.asm_updates.specs.code.SummaryRanges.{SummaryRanges}
 use Rattle.asm_updates.specs.code.Stands.{Stands}
-use Rattle.asm_meaning.specs.code.PartSets.{IsPartSet}
+use Rattle.asm_eval.specs.code.PartSets.{IsPartSet}
 use Rattle.asm_meaning.specs.Value.{Reading}
 use Rattle.asm_meaning.specs.Yields.{Path, Result, Gives, Exhausted}
-use Rattle.asm_meaning.specs.declared.outcome.Outcome.{Outcome}
-use Rattle.asm_meaning.specs.declared.outcome.Outcome.TheVariants as outcome
-use Rattle.asm_meaning.specs.declared.part_set.PartSet.{PartSet}
+use Rattle.asm_eval.specs.declared.outcome.Outcome.{Outcome}
+use Rattle.asm_eval.specs.declared.outcome.Outcome.TheVariants as outcome
+use Rattle.asm_eval.specs.declared.part_set.PartSet.{PartSet}
 use Rattle.asm_code.specs.code.RuleMeaning.{passing}
 use Rattle.asm_code.specs.code.RuleTree.{RuleCode, Skip, Assign, Par, Seq, If, Let, Forall, Choose, Iterate, Call, RuleCodes}
 use Rattle.asm_code.specs.code.RuleViews.{rule_of}

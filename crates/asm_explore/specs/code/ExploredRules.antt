@@ -12,7 +12,7 @@ use Rattle.asm_state.specs.Location.{State}
 use Rattle.asm_state.specs.Signature.{Shape}
 use Rattle.asm_meaning.specs.Does.{Outcome, parts, in_order, turns_of}
 use Rattle.asm_meaning.specs.Program.{nothing_bound}
-use Rattle.asm_meaning.specs.code.TermValues.{shown}
+use Rattle.asm_eval.specs.code.ShownViews.{shown}
 use Rattle.asm_meaning.specs.Yields.{Path, Result}
 use Rattle.asm_code.specs.code.RuleMeaning.{meaning, meanings}
 use Rattle.asm_code.specs.code.RuleTree.{RuleCode, RuleCodes}

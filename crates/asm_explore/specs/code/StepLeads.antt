@@ -10,7 +10,7 @@ use Rattle.asm_state.specs.Signature.{Shape, state_of}
 use Rattle.asm_state.specs.Updates.{UpdateSet, IsConsistent, fire}
 use Rattle.asm_state.specs.declared.value.Value.{Value}
 use Rattle.asm_meaning.specs.Yields.{Result, Gives, Exhausted}
-use Rattle.asm_meaning.specs.declared.choices.Choices.{Choices}
+use Rattle.asm_eval.specs.declared.choices.Choices.{Choices}
 use Rattle.asm_explore.specs.code.OutcomeLists.{Situation}
 
 abbrev pub situation_of : {P : Type 0} → (script : P → Script) → Choices P → Situation

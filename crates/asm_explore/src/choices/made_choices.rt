@@ -12,7 +12,7 @@ use crate::choices::run_choices::{RunChoices, make_step};
 use crate::outcomes::listed_outcome::copy_choice;
 use asm_check::Checked;
 use asm_code::rule_code::RuleCode;
-use asm_meaning::Choices;
+use asm_eval::Choices;
 use asm_reader::Picks;
 use asm_state::state::State;
 use std::alloc::{AllocError, Global};

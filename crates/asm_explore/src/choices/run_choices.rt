@@ -23,7 +23,7 @@ use asm_code::rule_code::RuleCode;
 use asm_eval::evaluation::Evaluation;
 use asm_eval::frame::Frame;
 use asm_eval::piece::Piece;
-use asm_meaning::{Choices, Part, Path, View};
+use asm_eval::{Choices, Part, Path, View};
 use asm_reader::Picks;
 use asm_resolve::laws::resolving_laws;
 use asm_resolve::main_rule::resolve_main;

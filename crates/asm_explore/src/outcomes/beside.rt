@@ -15,7 +15,7 @@ use crate::outcomes::list_error::ListError;
 use crate::outcomes::listed_outcome::{ListedOutcome, RuleResult, copy_path};
 use crate::outcomes::sets::{union, union_into};
 use crate::same_result::hash_of;
-use asm_meaning::Path;
+use asm_eval::Path;
 use asm_state::signature::Signature;
 use std::alloc::{AllocError, Global};
 

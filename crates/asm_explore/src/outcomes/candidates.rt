@@ -7,9 +7,9 @@ ghost use Rattle.asm_eval.specs.code.Frames.{IsSoundFrame};
 ghost use Rattle.asm_eval.specs.code.Evaluation.{passing_in};
 
 use asm_code::code::Code;
+use asm_eval::View;
 use asm_eval::choose::passes;
 use asm_eval::frame::Frame;
-use asm_meaning::View;
 use asm_state::word::Word;
 use std::alloc::{AllocError, Global};
 

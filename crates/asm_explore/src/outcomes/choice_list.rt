@@ -6,7 +6,7 @@ ghost use Rattle.asm_explore.specs.code.ChoiceChains.{chained, all_chained, link
 
 use crate::outcomes::chain::Chain;
 use crate::outcomes::listed_outcome::{Choice, copy_choice};
-use asm_meaning::Path;
+use asm_eval::Path;
 use std::alloc::{AllocError, Global};
 use std::marker::Model;
 use std::sync::Arc;

@@ -15,8 +15,8 @@ use crate::outcomes::sets::marked;
 use asm_code::rule_code::RuleCode;
 use asm_eval::evaluation::Evaluation;
 use asm_eval::frame::Frame;
-use asm_eval::outcome::whole;
-use asm_meaning::{Choices, Outcome};
+use asm_eval::rule_outcome::whole;
+use asm_eval::{Choices, Outcome};
 use asm_reader::Script;
 use std::alloc::{AllocError, Global};
 

@@ -42,7 +42,7 @@ use asm_eval::choose::passes;
 use asm_eval::frame::Frame;
 use asm_eval::target::optional_target_number;
 use asm_eval::value::{holds, value};
-use asm_meaning::{Path, View};
+use asm_eval::{Path, View};
 use std::alloc::Global;
 
 /// Paths with fewer numbers than this need no memory.

@@ -6,7 +6,7 @@ use crate::outcomes::below::Below;
 use crate::outcomes::choice_list::ChoiceList;
 use crate::outcomes::sets::copy_updates;
 use crate::updates::Updates;
-use asm_meaning::Path;
+use asm_eval::Path;
 use std::alloc::{AllocError, Global};
 
 /// The `choose` at this path takes the candidate with this number.

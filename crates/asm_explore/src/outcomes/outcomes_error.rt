@@ -3,7 +3,7 @@ ghost use Rattle.std.specs.Prelude.{◌≡◌, IfOk};
 ghost use Rattle.asm_explore.specs.declared.outcomes.outcomes_error.OutcomesError.TheVariants as refusal;
 
 use crate::outcomes::listed_outcome::copy_path;
-use asm_meaning::Path;
+use asm_eval::Path;
 use std::alloc::{AllocError, AllocFailed, Global};
 
 /// A rule whose outcomes are more than the limit says.

@@ -18,7 +18,7 @@ use crate::outcomes::outcomes_error::{OutcomesError, RuleOverLimit};
 use crate::outcomes::sequence_outcomes::SequenceOutcomes;
 use crate::outcomes::{beside, candidate_outcomes, sequence_outcomes};
 use crate::updates::Updates;
-use asm_meaning::Path;
+use asm_eval::Path;
 use asm_state::signature::Signature;
 use std::alloc::{AllocError, Global};
 

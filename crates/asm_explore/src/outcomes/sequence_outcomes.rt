@@ -17,7 +17,7 @@ use crate::outcomes::listed_outcome::{ListedOutcome, RuleResult, copy_outcome, c
 use crate::outcomes::sets::{is_last, merged};
 use crate::same_result::hash_of;
 use crate::updates::Updates;
-use asm_meaning::Path;
+use asm_eval::Path;
 use asm_state::signature::Signature;
 use std::alloc::{AllocError, Global};
 

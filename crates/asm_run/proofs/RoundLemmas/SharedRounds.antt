@@ -5,9 +5,9 @@ use denote.Param.Send.{IsSync, IsSend, shr_sync, shr_slice_sync, sendable}
 use denote.Param.SendFields.{declared_sync, variants_send}
 use Rattle.std.proofs.Crossing.{Vec-send, crosses}
 use Rattle.asm_reader.specs.declared.picks.Picks.{Ghosts}
-use Rattle.asm_meaning.specs.contracts.choices.Choices as Choices
-use Rattle.asm_meaning.specs.contracts.path.Path as Path
-use Rattle.asm_meaning.specs.contracts.view.View as View
+use Rattle.asm_eval.specs.contracts.choices.Choices as Choices
+use Rattle.asm_eval.specs.contracts.path.Path as Path
+use Rattle.asm_eval.specs.contracts.view.View as View
 use Rattle.asm_eval.specs.contracts.piece.Piece as Piece
 use Rattle.asm_eval.specs.contracts.evaluation.Evaluation as Evaluation
 use Rattle.asm_striped.specs.contracts.striped.Striped as Striped

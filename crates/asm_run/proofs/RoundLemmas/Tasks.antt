@@ -8,7 +8,7 @@ use Rattle.asm_updates.specs.code.Stands.{Stands}
 use Rattle.asm_striped.specs.code.Seats.{SeatState}
 use Rattle.asm_reader.specs.declared.picks.Picks.{Ghosts}
 use Rattle.asm_meaning.specs.Does.{Outcome}
-use Rattle.asm_meaning.specs.code.FormedOutcomes.{Forms}
+use Rattle.asm_eval.specs.code.FormedOutcomes.{Forms}
 use Rattle.asm_meaning.specs.Yields.{Gives}
 use Rattle.asm_eval.specs.declared.evaluation.Evaluation.{Evaluation}
 use Rattle.asm_run.specs.declared.job.RegionOut.TheVariants as region

@@ -17,7 +17,7 @@ use Rattle.asm_check.proofs.NumberLemmas.SignatureNumbers.{signature_numbers}
 use Rattle.asm_check.proofs.NumberLemmas.SoundShapes.{shape_is_sound}
 use Rattle.asm_updates.specs.code.SummaryRanges.{SummaryRanges, AreRanges}
 use Rattle.asm_updates.specs.code.Stands.{Stands}
-use Rattle.asm_meaning.specs.code.FormedOutcomes.{greatest_count}
+use Rattle.asm_eval.specs.code.FormedOutcomes.{greatest_count}
 use Rattle.asm_run.specs.Trace.{line_end, set_text, state_text, step_text}
 use Rattle.asm_run.specs.Written.{names_in, locations_in, step_line, contents_text}
 use Rattle.asm_run.specs.code.WrittenEntries.{entries_text}

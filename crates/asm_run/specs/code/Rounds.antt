@@ -29,7 +29,7 @@ use Rattle.asm_striped.specs.declared.board.Put.{Put}
 use Rattle.asm_striped.specs.code.Seats.{SeatState}
 use Rattle.asm_reader.specs.declared.picks.Picks.{Ghosts}
 use Rattle.asm_meaning.specs.Does.{Outcome, both}
-use Rattle.asm_meaning.specs.code.FormedOutcomes.{greatest_count}
+use Rattle.asm_eval.specs.code.FormedOutcomes.{greatest_count}
 use Rattle.asm_meaning.specs.code.OutcomesBeside.{counting}
 use Rattle.asm_meaning.specs.Yields.{Path, Gives, Exhausted, first_path}
 use Rattle.asm_meaning.specs.Yields as yields

@@ -14,7 +14,7 @@ use asm_eval::evaluation::Evaluation;
 use asm_eval::frame::Frame;
 use asm_eval::open::{Opened, open_piece};
 use asm_eval::piece::Piece;
-use asm_meaning::{Choices, Part, Path, View};
+use asm_eval::{Choices, Part, Path, View};
 use asm_pool::Job;
 use asm_resolve::main_rule::resolve_main;
 use asm_run::hand::RegionHand;

@@ -3,7 +3,7 @@ use super::outcome_at;
 use crate::beginning::Beginning;
 use crate::checked_text::checked_of_both;
 use asm_check::Checked;
-use asm_meaning::{Choices, Outcome};
+use asm_eval::{Choices, Outcome};
 use asm_reader::{Picks, Script, read_script};
 use asm_state::signature::Signature;
 use asm_updates::summary::Summary;

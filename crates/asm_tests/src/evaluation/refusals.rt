@@ -6,7 +6,7 @@ use crate::checked_text::{Unchecked, checked_of};
 use crate::plain::{Entry, FIVE, TWO};
 use crate::rules::{Counting, is_set};
 use asm_check::Checked;
-use asm_meaning::{Choices, Outcome};
+use asm_eval::{Choices, Outcome};
 use asm_resolve::main_rule::resolve_main;
 use std::alloc::{AllocError, Global};
 use std::test::Fail;

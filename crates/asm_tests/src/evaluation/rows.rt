@@ -10,7 +10,7 @@ use crate::rules::{
 };
 use asm_check::Checked;
 use asm_eval::evaluation::Evaluation;
-use asm_meaning::{Choices, Forming, Outcome};
+use asm_eval::{Choices, Forming, Outcome};
 use std::alloc::{AllocError, Global};
 use std::test::Fail;
 

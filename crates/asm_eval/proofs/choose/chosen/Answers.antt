@@ -1,6 +1,6 @@
 use Rattle.std.proofs.Common.{sym, ap, ◌∙◌}
 use Rattle.asm_meaning.specs.Taken.{taken}
-use Rattle.asm_meaning.proofs.Candidates.{candidate_laws-taken as met_is_taken, candidate_laws-taken_again as met_again_is_taken}
+use Rattle.asm_eval.proofs.Candidates.{candidate_laws-taken as met_is_taken, candidate_laws-taken_again as met_again_is_taken}
 use Rattle.asm_eval.specs.code.Evaluation.{passing_in}
 use Rattle.asm_eval.proofs.choose.chosen.Goals as goal
 

@@ -1,8 +1,8 @@
 use Rattle.std.proofs.Common.{◌≡◌, filter, ap, sym, ◌∙◌, arith, Some}
 use Rattle.asm_state.specs.Words.{value_of_code}
-use Rattle.asm_meaning.specs.declared.found_candidate.FoundCandidate.TheVariants.{At}
-use Rattle.asm_meaning.specs.Taken.{found_candidate}
-use Rattle.asm_meaning.proofs.Candidates.{candidate_laws-one_more as one_more_passes, candidate_laws-none_more as none_more_passes, candidate_laws-met as met_at, candidate_laws-passed as passed_all}
+use Rattle.asm_eval.specs.declared.found_candidate.FoundCandidate.TheVariants.{At}
+use Rattle.asm_eval.specs.code.FoundCandidates.{found_candidate}
+use Rattle.asm_eval.proofs.Candidates.{candidate_laws-one_more as one_more_passes, candidate_laws-none_more as none_more_passes, candidate_laws-met as met_at, candidate_laws-passed as passed_all}
 use Rattle.asm_eval.specs.code.Evaluation.{is_passing}
 use Rattle.asm_eval.proofs.CodeCandidates.{all_pass_here, passing_here}
 use Rattle.asm_eval.proofs.choose.find_candidate.Goals as goal

@@ -1,6 +1,6 @@
 use Rattle.std.proofs.Common.{refl, sym, ap, subst, ◌∙◌, arith, rules}
 use Rattle.asm_updates.specs.code.Stands.{Stands}
-use Rattle.asm_meaning.proofs.FollowsLaws.{following_laws-nothing as follows_nothing}
+use Rattle.asm_eval.proofs.FollowsLaws.{following_laws-nothing as follows_nothing}
 use Rattle.asm_code.specs.code.CodeViews.{code_of}
 use Rattle.asm_code.specs.code.RuleViews.{target_code_of}
 use Rattle.asm_eval.specs.code.Frames.{tree_value}

@@ -2,7 +2,7 @@ use Rattle.std.proofs.Common.{◌≡◌, ◌<◌, ℕ, ◌+◌, ◌*◌, Some, s
 use Rattle.asm_state.specs.code.Codes.{code_of}
 use Rattle.asm_state.specs.Signature.{Shape}
 use Rattle.asm_state.specs.declared.value.Value.{Value}
-use Rattle.asm_meaning.specs.code.TermValues.{shown}
+use Rattle.asm_eval.specs.code.ShownViews.{shown}
 use Rattle.asm_code.specs.code.Readings as reading
 use Rattle.asm_code.specs.code.Readings.{position_from}
 use Rattle.asm_code.specs.code.SoundCodes.{AreCells, IsCell}

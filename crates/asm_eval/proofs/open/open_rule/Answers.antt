@@ -2,7 +2,7 @@ use Rattle.std.proofs.Common.{ℕ, Some, None, cond, sym, ap, subst, ◌∙◌, 
 use Rattle.std.specs.Prelude.{option_map}
 use Rattle.asm_state.specs.Words.{value_of_code}
 use Rattle.asm_meaning.specs.Taken.{taken}
-use Rattle.asm_meaning.specs.declared.part.Part.TheVariants as part
+use Rattle.asm_eval.specs.declared.part.Part.TheVariants as part
 use Rattle.asm_code.proofs.RuleForms.{rule_laws-par_form as par_form, rule_laws-if_form as if_form, rule_laws-let_form as let_form, rule_laws-forall_form as forall_form, rule_laws-choose_form as choose_form, rule_laws-call_form as call_form}
 use Rattle.asm_code.specs.code.CodeViews.{code_of, codes_of}
 use Rattle.asm_code.specs.code.Readings.{always}

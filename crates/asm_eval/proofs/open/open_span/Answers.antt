@@ -1,7 +1,7 @@
 use Rattle.std.proofs.Common.{◌∙◌, ap, sym, arith}
 use Rattle.std.specs.Prelude.{option_map}
 use Rattle.asm_meaning.specs.code.Intervals.{between}
-use Rattle.asm_meaning.specs.declared.part.Part.TheVariants as part
+use Rattle.asm_eval.specs.declared.part.Part.TheVariants as part
 use Rattle.asm_code.proofs.RuleForms.{rule_laws-forall_form as forall_form}
 use Rattle.asm_code.specs.code.CodeViews.{code_of}
 use Rattle.asm_code.specs.code.Readings.{universe_at}

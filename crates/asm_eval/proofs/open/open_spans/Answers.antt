@@ -1,7 +1,7 @@
 use Rattle.std.proofs.Common.{◌+◌, ◌-◌, ◌≤◌, ◌≡◌, ◌∙◌, ◌∷◌, ◌++◌, map, ap, sym, subst, All, arith}
 use Rattle.std.specs.Prelude.{min}
 use Rattle.std.proofs.lemmas.List.Elements.{All-nil}
-use Rattle.asm_meaning.specs.declared.part.Part.TheVariants as part
+use Rattle.asm_eval.specs.declared.part.Part.TheVariants as part
 use Rattle.asm_code.specs.code.RuleViews.{rule_of}
 use Rattle.asm_eval.proofs.Lists.{all_more}
 use Rattle.asm_eval.proofs.OpenedRules.{given, no_spans, none_left, none_yet, one_more, part_of_part, span_next, spans_from, spans_opened}

@@ -1,6 +1,6 @@
 use Rattle.std.proofs.Common.{◌∙◌}
 use Rattle.std.proofs.lemmas.Result.{on_ok_weaker}
-use Rattle.asm_meaning.proofs.FromNothing.{from_nothing_laws-formed as formed_from_nothing}
+use Rattle.asm_eval.proofs.FromNothing.{from_nothing_laws-formed as formed_from_nothing}
 use Rattle.asm_eval.specs.code.Pieces.{piece_yields}
 use Rattle.asm_eval.specs.code.Evaluation.{evaluation_shape}
 use Rattle.asm_eval.proofs.piece.whole_piece.Goals as goal

@@ -2,7 +2,7 @@ use Rattle.std.proofs.Common.{◌≡◌, ◌∙◌, ap, subst}
 use Rattle.std.specs.Prelude.{IfOk, IfSome, option_map, ◌<◌}
 use Rattle.std.proofs.lemmas.Result.{IfOk-weaker}
 use Rattle.asm_state.specs.Signature.{count_of}
-use Rattle.asm_meaning.specs.code.TermValues.{shown}
+use Rattle.asm_eval.specs.code.ShownViews.{shown}
 use Rattle.asm_code.specs.code.RuleMeaning.{optional_target_location}
 use Rattle.asm_code.specs.code.RuleViews.{target_code_of}
 use Rattle.asm_eval.specs.code.Frames.{readings_of}

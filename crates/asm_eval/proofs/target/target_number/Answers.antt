@@ -1,7 +1,7 @@
 use Rattle.std.proofs.Common.{map, Some, sym, ap, ◌∙◌}
 use Rattle.asm_state.specs.Signature.{domain_of}
 use Rattle.asm_state.specs.Tables.{location_in}
-use Rattle.asm_meaning.specs.code.TermValues.{shown}
+use Rattle.asm_eval.specs.code.ShownViews.{shown}
 use Rattle.asm_code.specs.code.RuleViews.{target_code_of}
 use Rattle.asm_eval.specs.code.Frames.{code_value, readings_of}
 use Rattle.asm_eval.specs.code.Evaluation.{target_in}

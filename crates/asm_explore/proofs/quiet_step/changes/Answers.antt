@@ -4,7 +4,7 @@ use Rattle.std.proofs.lemmas.Bool.{false≢true}
 use Rattle.asm_state.specs.Signature.{state_of}
 use Rattle.asm_state.specs.Updates.{fire}
 use Rattle.asm_meaning.specs.Yields.{Gives}
-use Rattle.asm_meaning.proofs.Sequences.{part_laws-consistent_part as consistent_part, part_laws-ending_part as ending_part}
+use Rattle.asm_eval.proofs.SequenceLaws.{part_laws-consistent_part as consistent_part, part_laws-ending_part as ending_part}
 use Rattle.asm_explore.proofs.OutcomeLemmas.LeadingOutcomes.{gives_same, wrong_leads}
 use Rattle.asm_explore.proofs.quiet_step.changes.Goals as goal
 

@@ -9,15 +9,14 @@ use Rattle.asm_check.specs.Shapes.{shape_of}
 use Rattle.asm_updates.specs.code.Stands.{Stands}
 use Rattle.asm_meaning.specs.Declarations.{main_rule, program_of, specification_of}
 use Rattle.asm_meaning.specs.Does.{Outcome, does}
-use Rattle.asm_meaning.specs.code.FormedOutcomes.{IsFormed, IsSet}
+use Rattle.asm_eval.specs.code.FormedOutcomes.{IsFormed, IsSet}
 use Rattle.asm_meaning.specs.Program.{nothing_bound}
-use Rattle.asm_meaning.specs.code.TermValues.{shown}
+use Rattle.asm_eval.specs.code.ShownViews.{shown}
 use Rattle.asm_meaning.specs.Yields.{Result, Exhausted, Gives}
 use Rattle.asm_code.specs.code.RuleMeaning.{meaning}
 use Rattle.asm_code.specs.code.RuleViews.{rule_of}
 use Rattle.asm_explore.specs.Search.{IsQuiet, LeadsOn}
 use Rattle.asm_explore.proofs.SearchEnds.{errs_or}
-use Rattle.asm_explore.proofs.Specifications.{nothing_over}
 use Rattle.asm_explore.proofs.StepLeads.{exhausted_stays}
 use Rattle.asm_explore.proofs.quiet_step.first_changes.Goals as goal
 
@@ -32,8 +31,7 @@ returns-in-Exhausted c = λ yes quiet.
     let viewed : c.new-view.result.signature.now ≡ shape = c.new-view.ensures.parts.0 ∙ same in
     let A = state_of shape a.state.now in
     let shows : shown c.new-view.result ≡ A =
-    nothing_over signature shape c.new-nothing.result a.state.now (shown c.new-view.result) same (c.new-nothing.ensures.empty signature c.count.ensures.sound c.count.ensures.count)
-    (λ U stands consistent. c.new-view.ensures.fired U stands consistent) in
+    c.new-view.ensures.alone (c.new-nothing.ensures.empty signature c.count.ensures.sound c.count.ensures.count) ∙ ap (λ sh. state_of sh a.state.now) same in
     let root : c.new-2.result ≡ [] = c.new-2.ensures ∙ c.new.ensures.items in
     let script = c.new-script.result in
     let R = rule_of m.code.now in
@@ -55,8 +53,7 @@ returns c =
     let viewed : c.new-view.result.signature.now ≡ shape = c.new-view.ensures.parts.0 ∙ same in
     let A = state_of shape a.state.now in
     let shows : shown c.new-view.result ≡ A =
-    nothing_over signature shape c.new-nothing.result a.state.now (shown c.new-view.result) same (c.new-nothing.ensures.empty signature c.count.ensures.sound c.count.ensures.count)
-    (λ U stands consistent. c.new-view.ensures.fired U stands consistent) in
+    c.new-view.ensures.alone (c.new-nothing.ensures.empty signature c.count.ensures.sound c.count.ensures.count) ∙ ap (λ sh. state_of sh a.state.now) same in
     let root : c.new-2.result ≡ [] = c.new-2.ensures ∙ c.new.ensures.items in
     let script = c.new-script.result in
     let R = rule_of m.code.now in

@@ -1,10 +1,9 @@
 use Rattle.std.proofs.Common.{◌≡◌, ◌∙◌, [], refl, sym, subst}
 use Rattle.std.specs.Prelude.{option_map}
 use Rattle.asm_state.specs.Signature.{state_of}
-use Rattle.asm_meaning.specs.code.TermValues.{shown}
+use Rattle.asm_eval.specs.code.ShownViews.{shown}
 use Rattle.asm_code.specs.code.CodeViews.{code_of}
 use Rattle.asm_code.specs.code.RuleMeaning.{IsSoundTest, passes}
-use Rattle.asm_explore.proofs.Specifications.{nothing_over}
 use Rattle.asm_explore.proofs.specification.holds_at.Goals as goal
 
 pub passes-requires-clause-sound : goal.passes-requires-clause-sound
@@ -15,6 +14,5 @@ returns c =
     let a = c.args in
     let signature = a.signature.now in
     let shows : shown c.new-view.result ≡ state_of signature a.state.now =
-    nothing_over signature signature c.new-nothing.result a.state.now (shown c.new-view.result) refl (c.new-nothing.ensures.empty signature c.count.ensures.sound c.count.ensures.count)
-    (λ U stands consistent. c.new-view.ensures.fired U stands consistent) in
+    c.new-view.ensures.alone (c.new-nothing.ensures.empty signature c.count.ensures.sound c.count.ensures.count) in
     c.passes.ensures ∙ (λ i. passes (c.new-view.ensures.parts.0 i) (option_map code_of a.test.now) [] (shows i))

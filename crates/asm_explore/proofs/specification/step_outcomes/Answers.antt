@@ -6,7 +6,7 @@ use Rattle.asm_check.specs.Shapes.{shape_of}
 use Rattle.asm_meaning.specs.Declarations.{main_rule, program_of, specification_of}
 use Rattle.asm_meaning.specs.Does.{Outcome, does}
 use Rattle.asm_meaning.specs.Program.{nothing_bound}
-use Rattle.asm_meaning.specs.code.TermValues.{shown}
+use Rattle.asm_eval.specs.code.ShownViews.{shown}
 use Rattle.asm_code.specs.code.RuleMeaning.{IsSoundRule, meaning}
 use Rattle.asm_code.specs.code.RuleViews.{rule_of}
 use Rattle.asm_explore.specs.code.OutcomeLists.{picked, Lists}
@@ -15,7 +15,7 @@ use Rattle.asm_explore.specs.code.ChoicePaths.{HaveOwnPaths, LieBelow}
 use Rattle.asm_explore.specs.code.ReachedStates.{steps_from}
 use Rattle.asm_explore.proofs.OutcomeLemmas.ListLemmas.{lists_same}
 use Rattle.asm_explore.proofs.ChoiceLemmas.ChoicePaths.{have_weaker}
-use Rattle.asm_explore.proofs.Specifications.{nothing_over, refused_listed}
+use Rattle.asm_explore.proofs.Specifications.{refused_listed}
 use Rattle.asm_explore.proofs.specification.step_outcomes.Goals as goal
 
 pub outcomes-requires-clause-sound : goal.outcomes-requires-clause-sound
@@ -34,8 +34,7 @@ returns c =
     let A = shown c.new-view.result in
     let R = main_rule s (inits s) in
     let shows : A ≡ state_of shape a.state.now =
-    nothing_over signature shape c.new-nothing.result a.state.now A same (c.new-nothing.ensures.empty signature c.count.ensures.sound c.count.ensures.count)
-    (λ U stands consistent. c.new-view.ensures.fired U stands consistent) in
+    c.new-view.ensures.alone (c.new-nothing.ensures.empty signature c.count.ensures.sound c.count.ensures.count) ∙ ap (λ sh. state_of sh a.state.now) same in
     let steps = steps_from (specification_of s) m.turns (state_of shape a.state.now) in
     record {
       step = record {
@@ -65,8 +64,7 @@ returns-in_err-found c =
     let viewed : c.new-view.result.signature.now ≡ shape = c.new-view.ensures.parts.0 ∙ same in
     let A = shown c.new-view.result in
     let shows : A ≡ state_of shape a.state.now =
-    nothing_over signature shape c.new-nothing.result a.state.now A same (c.new-nothing.ensures.empty signature c.count.ensures.sound c.count.ensures.count)
-    (λ U stands consistent. c.new-view.ensures.fired U stands consistent) in
+    c.new-view.ensures.alone (c.new-nothing.ensures.empty signature c.count.ensures.sound c.count.ensures.count) ∙ ap (λ sh. state_of sh a.state.now) same in
     refused_listed shape (specification_of s) m.turns (made_in shape m.turns R) m.limit (state_of shape a.state.now)
     c.from_residual.result c.in_err-found.field-0.0 c.from_residual.ensures.1
     (made_in c.new-view.result.signature.now m.turns R A) (λ q i. made_in (viewed i) m.turns R (shows i) q) c.in_err-found.ensures.crowded

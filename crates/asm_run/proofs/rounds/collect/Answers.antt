@@ -2,7 +2,7 @@ use Rattle.std.proofs.Common.{◌≡◌, ◌∙◌, ◌+◌, ◌++◌, ◌∷◌
 use Rattle.std.specs.Prelude.{IsOk, Ok}
 use Rattle.std.specs.Vec.Iter.{into_iter_items}
 use Rattle.std.proofs.lemmas.List.Elements.{All-cons}
-use Rattle.asm_meaning.specs.code.FormedOutcomes.{greatest_count}
+use Rattle.asm_eval.specs.code.FormedOutcomes.{greatest_count}
 use Rattle.asm_run.specs.code.Rounds.{TaskResult, outs_of, least_of_all, new_pieces, count_instances}
 use Rattle.asm_run.specs.declared.job.RegionOut.TheVariants as region
 use Rattle.asm_run.proofs.rounds.collect.Goals as goal

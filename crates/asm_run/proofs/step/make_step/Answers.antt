@@ -6,7 +6,7 @@ use Rattle.asm_check.specs.Shapes.{shape_of}
 use Rattle.asm_updates.specs.code.Stands.{Stands}
 use Rattle.asm_updates.proofs.StandingLaws.{standing_laws}
 use Rattle.asm_meaning.specs.Does.{Outcome}
-use Rattle.asm_meaning.specs.code.FormedOutcomes.{IsSet}
+use Rattle.asm_eval.specs.code.FormedOutcomes.{IsSet}
 use Rattle.asm_run.specs.code.Step.{EndsBy, main_outcome}
 use Rattle.asm_run.specs.Written.{step_line}
 use Rattle.asm_run.specs.code.WrittenEntries.{entries_text}

@@ -6,7 +6,7 @@ use Rattle.asm_state.specs.Updates.{IsConsistent, IsFirstFault, fire}
 use Rattle.asm_updates.specs.Faults.{fault_of}
 use Rattle.asm_updates.specs.code.Stands.{Stands}
 use Rattle.asm_meaning.specs.Does.{Outcome}
-use Rattle.asm_meaning.specs.code.FormedOutcomes.{IsSet}
+use Rattle.asm_eval.specs.code.FormedOutcomes.{IsSet}
 use Rattle.asm_step.specs.code.Steps.{shape_in, step_in}
 use Rattle.asm_step.proofs.Steps.{faulty_ends}
 use Rattle.asm_step.proofs.step.make_step.Goals as goal

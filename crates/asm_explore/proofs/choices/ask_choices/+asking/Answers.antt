@@ -4,7 +4,7 @@ use Rattle.std.proofs.lemmas.List.{take_all}
 use Rattle.asm_state.specs.Location.{State}
 use Rattle.asm_state.specs.Signature.{count_of}
 use Rattle.asm_state.specs.Updates.{fire}
-use Rattle.asm_meaning.specs.code.FormedOutcomes.{IsFormed, IsSet}
+use Rattle.asm_eval.specs.code.FormedOutcomes.{IsFormed, IsSet}
 use Rattle.asm_meaning.specs.Yields.{at}
 use Rattle.asm_code.specs.code.CodeViews.{code_of}
 use Rattle.asm_code.specs.code.RuleViews.{target_code_of, rule_of}

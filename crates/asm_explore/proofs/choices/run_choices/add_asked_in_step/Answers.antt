@@ -6,12 +6,11 @@ use Rattle.asm_check.specs.Faults.{inits}
 use Rattle.asm_check.specs.Shapes.{shape_of}
 use Rattle.asm_reader.specs.ScriptLines.{pick}
 use Rattle.asm_meaning.specs.Declarations.{main_rule}
-use Rattle.asm_meaning.specs.code.TermValues.{shown}
+use Rattle.asm_eval.specs.code.ShownViews.{shown}
 use Rattle.asm_code.specs.code.RuleViews.{rule_of}
 use Rattle.asm_explore.specs.ChoicePoints.{asked}
 use Rattle.asm_explore.specs.code.AskedRules.{asks}
 use Rattle.asm_explore.specs.code.AskedPieces.{all_said}
-use Rattle.asm_explore.proofs.Specifications.{nothing_over}
 use Rattle.asm_explore.proofs.choices.run_choices.add_asked_in_step.Goals as goal
 
 pub returns : goal.returns
@@ -24,8 +23,7 @@ returns g c =
     let same : signature ≡ shape = c.signature-signature.ensures in
     let viewed : c.new-view.result.signature.now ≡ shape = c.new-view.ensures.parts.0 ∙ same in
     let shows : shown c.new-view.result ≡ state_of shape a.state.now =
-    nothing_over signature shape c.new-nothing.result a.state.now (shown c.new-view.result) same (c.new-nothing.ensures.empty signature c.count.ensures.sound c.count.ensures.count)
-    (λ U stands consistent. c.new-view.ensures.fired U stands consistent) in
+    c.new-view.ensures.alone (c.new-nothing.ensures.empty signature c.count.ensures.sound c.count.ensures.count) ∙ ap (λ sh. state_of sh a.state.now) same in
     let root : c.new-2.result ≡ [] = c.new-2.ensures ∙ c.new.ensures.items in
     let script = g.P.Picks.script a.choices.now.script.now in
     let i = a.choices.now.step in

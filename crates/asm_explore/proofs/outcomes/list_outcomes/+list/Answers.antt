@@ -4,7 +4,7 @@ use Rattle.std.specs.Prelude.{option_map, IfErr, Ok}
 use Rattle.asm_state.specs.Signature.{count_of}
 use Rattle.asm_state.specs.Words.{value_of_code}
 use Rattle.asm_meaning.specs.Does.{nothing}
-use Rattle.asm_meaning.specs.code.TermValues.{shown}
+use Rattle.asm_eval.specs.code.ShownViews.{shown}
 use Rattle.asm_meaning.specs.Yields.{at, beside}
 use Rattle.asm_code.specs.code.CodeViews.{code_of}
 use Rattle.asm_code.specs.code.Readings.{universe_at}

@@ -1,5 +1,5 @@
 use Rattle.std.proofs.Common.{List, ℕ}
-use Rattle.asm_meaning.proofs.FromNothing.{from_nothing_laws-set as set_from_nothing, from_nothing_laws-stopped as stopped_from_nothing}
+use Rattle.asm_eval.proofs.FromNothing.{from_nothing_laws-set as set_from_nothing, from_nothing_laws-stopped as stopped_from_nothing}
 use Rattle.asm_code.specs.code.RuleViews.{rule_of}
 use Rattle.asm_eval.specs.code.Evaluation.{rule_at, evaluation_shape}
 use Rattle.asm_run.proofs.pooled.Pooled.outcome.Goals as goal

@@ -1,7 +1,7 @@
 use Rattle.std.proofs.Common.{◌≡◌, ◌∙◌, ◌++◌, ℕ, List, [], ◌∷◌, ap, subst}
-use Rattle.asm_meaning.specs.declared.part.Part.TheVariants as part
+use Rattle.asm_eval.specs.declared.part.Part.TheVariants as part
 use Rattle.asm_meaning.specs.Does.{Outcome}
-use Rattle.asm_meaning.specs.code.FormedOutcomes.{IsFormed}
+use Rattle.asm_eval.specs.code.FormedOutcomes.{IsFormed}
 use Rattle.asm_meaning.proofs.BesideLemmas.PartsBeside.{beside_laws}
 use Rattle.asm_code.specs.code.RuleViews.{rule_of}
 use Rattle.asm_eval.specs.code.OpenedPieces.{pieces_yield}
