@@ -19,13 +19,13 @@ use Rattle.std.proofs.lemmas.List.Elements.{All-get_or}
 use Rattle.std.proofs.Math.ListN.{drop_of_length-le}
 use Rattle.asm_reader.specs.declared.picks.Picks.{Ghosts}
 use Rattle.asm_state.specs.declared.value.Value.{Value}
-use Rattle.asm_state.specs.Location.{Location, State}
+use Rattle.asm_state.specs.Location.{Location}
 use Rattle.asm_state.specs.Signature.{Shape}
-use Rattle.asm_meaning.specs.Value.{Reading}
 use Rattle.asm_meaning.specs.Yields.{Path}
-use Rattle.asm_meaning.specs.declared.part.Part.TheVariants as part
+use Rattle.asm_eval.specs.declared.part.Part.TheVariants as part
 use Rattle.asm_code.specs.code.CodeViews.{code_of, codes_of}
-use Rattle.asm_code.specs.code.RuleMeaning.{IsSoundRule, AreSoundRules, Locations, target_location, rule_size, rule_sizes}
+use Rattle.asm_code.specs.code.RuleMeaning.{IsSoundRule, AreSoundRules, rule_size, rule_sizes}
+use Rattle.asm_code.specs.code.RuleStories.{telling}
 use Rattle.asm_code.specs.code.RuleTree as tree
 use Rattle.asm_code.specs.code.RuleViews.{target_code_of, rule_of, rule_step, rules_of}
 use Rattle.asm_code.specs.declared.code.Code.{Code}
@@ -38,16 +38,16 @@ use Rattle.asm_code.specs.declared.rule_code.RuleCode.TheVariants as code
 use Rattle.asm_code.specs.declared.rule_code.RuleCode.TheFolds.{fold-roll-RuleCode}
 use Rattle.asm_eval.specs.code.Frames.{readings_of}
 use Rattle.asm_eval.specs.code.OpenedPieces.{Gives, Opens, OpeningLaws, is_closed, is_closed_part, pieces_in, works_in}
-use Rattle.asm_eval.specs.code.Opening.{part_opened, work_of}
+use Rattle.asm_eval.specs.code.Opening.{Work, part_opened, work_of}
 use Rattle.asm_eval.specs.code.Pieces.{HasAtMost, IsPiece, all_positions, piece_yields}
-use Rattle.asm_eval.specs.code.Evaluation.{evaluation_choices, frame_locations, evaluation_shape, evaluation_state}
+use Rattle.asm_eval.specs.code.Evaluation.{evaluation_choices, frame_locations, evaluation_shape, evaluation_state, target_in}
+use Rattle.asm_eval.specs.declared.frame.Frame.{Frame}
 use Rattle.asm_eval.specs.declared.open.Opened.{Opened}
 use Rattle.asm_eval.specs.declared.open.Opened.TheVariants as opening
 use Rattle.asm_eval.specs.declared.piece.Piece.{Piece}
 use Rattle.asm_eval.specs.declared.evaluation.Evaluation.{Evaluation}
 use Rattle.asm_clash.specs.Standing.{Assigned}
-use Rattle.asm_clash.specs.code.StandingCodes.{assigned_at, detail, order_stands, parts_of, standing}
-use Rattle.asm_clash.specs.code.StandingRules.{given_below, given_by, stands_at}
+use Rattle.asm_clash.specs.code.StandingRules.{assigned_at, detail_at, given_below, given_by, order_in, stands_at, story_in}
 use Rattle.asm_clash.proofs.OpenedRules.{AreBelow, AreOpened, rule_opened, works_stand}
 
 -- ---- the tree of a code
@@ -57,9 +57,6 @@ assign_form P to t is = ap rule_of is ∙ ap rule_of (sym (code.rolls-Assign to 
 
 seq_form : (P : RuleCode) (Ps : Vec RuleCode Global) → P ≡ code.Seq Ps → rule_of P ≡ tree.Seq (rules_of (map rule_of Ps.items))
 seq_form P Ps is = ap rule_of is ∙ ap rule_of (sym (code.rolls-Seq Ps)) ∙ fold-roll-RuleCode tree.RuleCode rule_step (opened_code.Seq Ps)
-
-iterate_form : (P : RuleCode) (Q : Box RuleCode Global) → P ≡ code.Iterate Q → rule_of P ≡ tree.Iterate (rule_of Q.value)
-iterate_form P Q is = ap rule_of is ∙ ap rule_of (sym (code.rolls-Iterate Q)) ∙ fold-roll-RuleCode tree.RuleCode rule_step (opened_code.Iterate Q)
 
 module _ (R : RuleCode) (closed : is_closed (rule_of R) ≡ true) where
   layer_closed : (L : RuleCode-F RuleCode) (S : tree.RuleCode) → rule_of (roll-RuleCode L) ≡ S → R ≡ roll-RuleCode L → is_closed S ≡ true
@@ -112,30 +109,25 @@ module _ (gs : List Value) (of_target : Option tree.Place → List Value) (R : R
 
 -- ---- what stands of it
 
-module _ (shape : Shape) (turns : ℕ) (chosen : Path → ℕ) (l : Location) (rs : List Reading) (ls : Locations) (gs : List Value) (A : State) (p q : Path) (same : q ≡ p) where
-  abbrev stands : tree.RuleCode → List Assigned
-  stands R = standing shape turns chosen l R rs ls gs A p
+module _ {P : Type 0} {picks : Ghosts P} (r : Evaluation P picks) (l : Location) (gs : List Value) (f : Frame) (p q : Path) (same : q ≡ p) where
+  abbrev stands_of : tree.RuleCode → List Assigned
+  stands_of R = stands_at r l gs f p R
 
   pub assign_here : (R : RuleCode) (to : TargetCode) (t : Code) → R ≡ code.Assign to t
-      → assigned_at l (target_location shape (target_code_of to) rs ls A) (detail shape (target_code_of to) (code_of t) rs ls gs A q) ≡ stands (rule_of R)
-  unfolding standing
-  assign_here R to t is = ap (λ x. assigned_at l (target_location shape (target_code_of to) rs ls A) (detail shape (target_code_of to) (code_of t) rs ls gs A x)) same ∙ sym (ap stands (assign_form R to t is))
+      → assigned_at l (target_in r.view.now f (target_code_of to)) (detail_at r.view.now f gs (target_code_of to) (code_of t) q) ≡ stands_of (rule_of R)
+  unfolding telling
+  assign_here R to t is = ap (λ x. assigned_at l (target_in r.view.now f (target_code_of to)) (detail_at r.view.now f gs (target_code_of to) (code_of t) x)) same ∙ sym (ap stands_of (assign_form R to t is))
 
   pub seq_here : (R : RuleCode) (Ps : Vec RuleCode Global) → R ≡ code.Seq Ps → (Qs : List RuleCode) → Qs ≡ Ps.items
-      → order_stands (parts_of shape turns chosen l (rules_of (map rule_of Qs)) rs ls gs) 0 A q ≡ stands (rule_of R)
-  unfolding standing
-  seq_here R Ps is Qs all =
-      (λ i. order_stands (parts_of shape turns chosen l (rules_of (map rule_of (all i))) rs ls gs) 0 A (same i)) ∙ sym (ap stands (seq_form R Ps is))
-
-  pub iterate_here : (R : RuleCode) (Q : Box RuleCode Global) → R ≡ code.Iterate Q → (S : RuleCode) → S ≡ Q.value
-      → standing shape turns chosen l (tree.Iterate (rule_of S)) rs ls gs A q ≡ stands (rule_of R)
-  iterate_here R Q is S all = (λ i. standing shape turns chosen l (tree.Iterate (rule_of (all i))) rs ls gs A (same i)) ∙ sym (ap stands (iterate_form R Q is))
+      → order_in r l gs f q 0 (rules_of (map rule_of Qs)) (evaluation_state r) ≡ stands_of (rule_of R)
+  unfolding telling
+  seq_here R Ps is Qs all = (λ i. order_in r l gs f (same i) 0 (rules_of (map rule_of (all i))) (evaluation_state r)) ∙ sym (ap stands_of (seq_form R Ps is))
 
   pub other_here : (R : RuleCode) → is_closed (rule_of R) ≡ true
       → ((to : TargetCode) (t : Code) → R ≡ code.Assign to t → ⊥) → ((Ps : Vec RuleCode Global) → R ≡ code.Seq Ps → ⊥) → ((P : Box RuleCode Global) → R ≡ code.Iterate P → ⊥)
-      → [] ≡ stands (rule_of R)
-  unfolding standing
-  other_here R closed no_assign no_seq no_iterate = sym (ap stands (is_skip R closed no_assign no_seq no_iterate))
+      → [] ≡ stands_of (rule_of R)
+  unfolding telling
+  other_here R closed no_assign no_seq no_iterate = sym (ap stands_of (is_skip R closed no_assign no_seq no_iterate))
 
 -- ---- pieces
 
@@ -156,12 +148,15 @@ module _ {P : Type 0} {picks : Ghosts P} (r : Evaluation P picks) (piece : Piece
     abbrev size : ℕ
     size = rule_size (rule_of piece.rule.now)
 
+    abbrev IsOpened : Option (List Work × ℕ) → Type 0
+    IsOpened works = AreOpened (evaluation_shape r) r.turns (evaluation_choices r) l (evaluation_state r) below_given size (story_in r gs piece.frame piece.path (rule_of piece.rule.now) (evaluation_state r)) works
+
     pub pieces_here : (all ≡ works_stand (evaluation_shape r) r.turns (evaluation_choices r) l (evaluation_state r) below_given (map (work_of (evaluation_shape r)) pieces.items)) × AreBelow size (map (work_of (evaluation_shape r)) pieces.items)
     pieces_here =
         let found = rule_opened (evaluation_shape r) r.turns (evaluation_choices r) l (evaluation_state r) gs cut (rule_of piece.rule.now) (readings_of (evaluation_shape r) piece.frame) (frame_locations (evaluation_shape r) piece.frame) piece.path long in
-        let at_part = subst (λ its. AreOpened (evaluation_shape r) r.turns (evaluation_choices r) l (evaluation_state r) below_given size all (part_opened (evaluation_shape r) (evaluation_state r) (evaluation_choices r) cut (rule_of piece.rule.now) (readings_of (evaluation_shape r) piece.frame) (frame_locations (evaluation_shape r) piece.frame) piece.path its)) (sym whole) found in
-        let at_opened = subst (AreOpened (evaluation_shape r) r.turns (evaluation_choices r) l (evaluation_state r) below_given size all) (sym opens.works) at_part in
-        subst (λ (x : Opened). AreOpened (evaluation_shape r) r.turns (evaluation_choices r) l (evaluation_state r) below_given size all (works_in (evaluation_shape r) x)) is at_opened
+        let at_part = subst (λ its. IsOpened (part_opened (evaluation_shape r) (evaluation_state r) (evaluation_choices r) cut (rule_of piece.rule.now) (readings_of (evaluation_shape r) piece.frame) (frame_locations (evaluation_shape r) piece.frame) piece.path its)) (sym whole) found in
+        let at_opened = subst IsOpened (sym opens.works) at_part in
+        subst (λ (x : Opened). IsOpened (works_in (evaluation_shape r) x)) is at_opened
 
     below_at : (those : List Piece) (i : ℕ) (x : Piece) → i < length those → x ≡ get_or those i x → AreBelow size (map (work_of (evaluation_shape r)) those)
         → (rule_size (rule_of x.rule.now) < size) × (x.part ≡ part.Whole)

@@ -3,7 +3,7 @@
 --     put_after                     of those after others
 use Rattle.std.proofs.Common.{◌≡◌, ◌<◌, ◌-◌, ◌+◌, ◌≤◌, ℕ, zero, suc, List, [], ◌∷◌, ◌++◌, length, min, take, refl, sym, ap, ◌∙◌, arith, length-append}
 use Rattle.std.proofs.lemmas.List.{length-map, map-append, take_all}
-use Rattle.asm_meaning.specs.code.FormedOutcomes.{greatest_count}
+use Rattle.asm_eval.specs.code.FormedOutcomes.{greatest_count}
 use Rattle.asm_clash.specs.Standing.{assigned_of, Assigned, all_assigned}
 use Rattle.asm_clash.specs.code.FirstFound.{IsFound}
 use Rattle.asm_clash.specs.declared.found.Found.{Found}

@@ -8,8 +8,8 @@ use Rattle.asm_state.specs.Location.{State}
 use Rattle.asm_state.specs.Signature.{Shape}
 use Rattle.asm_state.specs.Words.{value_of_code}
 use Rattle.asm_meaning.specs.Value.{Reading}
-use Rattle.asm_meaning.specs.code.TermValues.{shown}
-use Rattle.asm_meaning.specs.declared.view.View.{View}
+use Rattle.asm_eval.specs.code.ShownViews.{shown}
+use Rattle.asm_eval.specs.declared.view.View.{View}
 use Rattle.asm_code.specs.code.BoundValues.{bound_of}
 use Rattle.asm_code.specs.code.CodeViews.{code_of, codes_of}
 use Rattle.asm_code.specs.code.Readings.{always, readings}

@@ -1,5 +1,6 @@
 -- Free. An assignment's update is at a location just when its target has the location's number.
---     no_number                      a number that is none
+--     same_location, location_itself     `is_location` holds just of the same one
+--     not_some                       what is no value is none
 --     none_here, elsewhere, here     if it has none, another one, and that one
 use Rattle.std.proofs.Common.{◌≡◌, ℕ, ◌<◌, true, false, cond, [], ◌∷◌, Option, Some, None, refl, ap, sym, subst, ◌∙◌}
 use Rattle.std.specs.Prelude.{IfSome}
@@ -10,20 +11,20 @@ use Rattle.asm_state.specs.Signature.{Shape, IsSound, count_of, is_location, loc
 use Rattle.asm_state.proofs.LocationLemmas.NumberedLocations.{number_laws}
 use Rattle.asm_eval.specs.code.Evaluation.{location_numbered}
 use Rattle.asm_clash.specs.Standing.{Assigned}
-use Rattle.asm_clash.specs.code.StandingCodes.{assigned_at}
+use Rattle.asm_clash.specs.code.StandingRules.{assigned_at}
 
-same_location : (l m : Location) → is_location l m ≡ true → l ≡ m
+pub same_location : (l m : Location) → is_location l m ≡ true → l ≡ m
 same_location l m e = location_cmp-antisymmetric l m ((Equal-is (location_cmp l m)).0 e)
 
-location_itself : (l : Location) → is_location l l ≡ true
+pub location_itself : (l : Location) → is_location l l ≡ true
 location_itself l = (Equal-is (location_cmp l l)).1 (tied_itself location_cmp-total l)
 
 pub some_below : (shape : Shape) (o : Option ℕ) (m : ℕ) → o ≡ Some m → IfSome o (λ k. k < count_of shape) → m < count_of shape
 some_below shape o m is low = subst (λ x. IfSome x (λ k. k < count_of shape)) is low
 
-pub no_number : (o : Option ℕ) → ((m : ℕ) → o ≡ Some m → ⊥) → o ≡ None
-no_number None other = refl
-no_number (Some m) other = absurd (other m refl)
+pub not_some : {X : Type 0} (o : Option X) → ((x : X) → o ≡ Some x → ⊥) → o ≡ None
+not_some None other = refl
+not_some (Some x) other = absurd (other x refl)
 
 module _ (shape : Shape) (n : ℕ) (to : Option Location) (o : Option ℕ) (d : Assigned) (is : location_numbered shape o ≡ to) where
   pub none_here : o ≡ None → [] ≡ assigned_at (location_at shape n) to d

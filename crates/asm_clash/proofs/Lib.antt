@@ -1,11 +1,9 @@
 pub mod Founds
 pub mod FrameValues
 pub mod StandingSets
-pub mod StandingTold
 pub mod OpenedRules
 pub mod ClosedRules
 pub mod Sequences
-pub mod StandingSequences
 pub mod NextParts
 pub mod Leaves
 pub mod FirstFaults

@@ -5,11 +5,10 @@
 --     standing_laws         of the set that it gives
 use Rattle.std.proofs.Common.{◌++◌, ◌≡◌, ◌<◌, ℕ, zero, suc, true, false, cond, List, [], ◌∷◌, refl, sym, ap, subst, ◌∙◌, arith, ◌⊎◌, inl, inr}
 use Rattle.std.specs.Prelude.{Contains, length, slice_index_or}
-use Rattle.std.specs.Cmp.{Equal-is, tied_itself}
 use Rattle.std.proofs.lemmas.Bool.{false≢true}
 use Rattle.std.proofs.lemmas.List.Elements.{Contains-append_left, Contains-append_right, Contains-append_cases}
 use Rattle.asm_state.specs.declared.value.Value.{Value}
-use Rattle.asm_state.specs.Location.{Location, location_cmp, location_cmp-total, location_cmp-antisymmetric}
+use Rattle.asm_state.specs.Location.{Location}
 use Rattle.asm_state.specs.Signature.{is_location}
 use Rattle.asm_state.specs.Updates.{UpdateSet, Has, Names, one, together, merge}
 use Rattle.asm_state.proofs.UpdateLemmas.Members.{member_laws}
@@ -18,6 +17,7 @@ use Rattle.asm_meaning.specs.Story.{Story, Silent, Assigns, Chooses, Instance, B
 use Rattle.asm_meaning.specs.Yields.{Path, Result, Gives, Exhausted, beside, after}
 use Rattle.asm_clash.specs.Standing.{Assigned, AreValuesAt, values_of, later, stands}
 use Rattle.asm_clash.specs.StandingLaws.{StandingLaws}
+use Rattle.asm_clash.proofs.Leaves.{location_itself, same_location}
 
 -- ---- elements of lists
 
@@ -37,12 +37,6 @@ only_value v w h = at_zero h.0 h.1 h.2
     at_zero : (k : ℕ) → k < length (w ∷ []) → slice_index_or (w ∷ []) k v ≡ v → w ≡ v
     at_zero zero below is = is
     at_zero (suc k) below is = absurd (omega (arith, below))
-
-same_location : (l m : Location) → is_location l m ≡ true → l ≡ m
-same_location l m e = location_cmp-antisymmetric l m ((Equal-is (location_cmp l m)).0 e)
-
-location_itself : (l : Location) → is_location l l ≡ true
-location_itself l = (Equal-is (location_cmp l l)).1 (tied_itself location_cmp-total l)
 
 module _ (l : Location) where
   abbrev pub Shows : Result → List Assigned → Type 0

@@ -1,14 +1,10 @@
 -- Free. The run that goes on after a step or ends in it, and what stands of the step.
---     nothing_over                               what a view shows with nothing over a state
 --     goes_on, ends_exhausted, ends_faulty       the run after a step with a consistent set, and its
 --                                                ends
 use Rattle.std.proofs.Common.{◌≡◌, ℕ, ◌+◌, ◌<◌, List, [], length, min, take, sym, ap, subst, ◌∙◌}
-use Rattle.asm_state.specs.declared.value.Value.{Value}
-use Rattle.asm_state.specs.Location.{Location, Stray, State}
-use Rattle.asm_state.specs.Signature.{Shape, location_at, state_of}
-use Rattle.asm_state.specs.Updates.{UpdateSet, IsConsistent, IsFirstFault, none, fire}
-use Rattle.asm_state.proofs.UpdateLemmas.Members.{member_laws}
-use Rattle.asm_state.proofs.UpdateLemmas.Summaries.{fire_laws}
+use Rattle.asm_state.specs.Location.{Location, State}
+use Rattle.asm_state.specs.Signature.{Shape, location_at}
+use Rattle.asm_state.specs.Updates.{UpdateSet, IsConsistent, IsFirstFault, fire}
 use Rattle.asm_updates.specs.Faults.{fault_of}
 use Rattle.asm_updates.specs.code.SummaryRanges.{SummaryRanges}
 use Rattle.asm_updates.specs.code.Stands.{Stands}
@@ -19,15 +15,15 @@ use Rattle.asm_check.specs.Faults.{inits}
 use Rattle.asm_check.specs.Shapes.{shape_of}
 use Rattle.asm_meaning.specs.Declarations.{main_rule, specification_of}
 use Rattle.asm_meaning.specs.Does.{Outcome, greatest_count}
+use Rattle.asm_meaning.specs.Program.{nothing_bound}
 use Rattle.asm_meaning.specs.Run.{AtExhausted, AtFault, Run, Specification, run, step, IsAfter}
 use Rattle.asm_meaning.specs.RunLaws.{RunLaws}
 use Rattle.asm_meaning.specs.Story.{Story, outcome_of, step_tells}
 use Rattle.asm_meaning.specs.Yields.{Path, Gives, Exhausted}
-use Rattle.asm_meaning.specs.code.FormedOutcomes.{IsSet}
-use Rattle.asm_code.specs.code.RuleMeaning.{meaning}
+use Rattle.asm_meaning.proofs.Stories.{told_outcomes}
+use Rattle.asm_eval.specs.code.FormedOutcomes.{IsSet}
 use Rattle.asm_code.specs.code.RuleStories.{telling}
 use Rattle.asm_code.specs.code.RuleTree.{RuleCode}
-use Rattle.asm_code.proofs.RuleStories.{code_outcomes}
 use Rattle.asm_resolve.specs.code.ResolvingLaws.{ResolvingLaws}
 use Rattle.asm_resolve.specs.code.RuleScopes.{resolved_rule_in}
 use Rattle.asm_clash.specs.ClashOfRun.{EndsSo, location_of}
@@ -38,16 +34,6 @@ use Rattle.asm_clash.specs.declared.clash.ClashOfRun.TheVariants as clash
 use Rattle.asm_clash.specs.declared.found.Found.{Found}
 use Rattle.asm_clash.proofs.FirstFaults.{first_is_fault}
 use Rattle.asm_clash.proofs.StandingSets.{standing_laws}
-use Rattle.asm_clash.proofs.StandingTold.{set_told}
-
-none_consistent : IsConsistent none
-none_consistent = record { one_value = λ l v w h k. absurd (member_laws.of_none l v h); no_stray = λ f v. member_laws.of_none (Stray f) v }
-
--- a view with nothing over a state shows the state
-pub nothing_over : (signature shape : Shape) (set : SummaryRanges) (contents : List Value) (A : State) → signature ≡ shape → Stands signature set none
-    → ((U : UpdateSet) → Stands signature set U → IsConsistent U → A ≡ fire (state_of signature contents) U) → A ≡ state_of shape contents
-nothing_over signature shape set contents A same stands fired =
-    fired none stands none_consistent ∙ fire_laws.of_none (state_of signature contents) ∙ ap (λ s. state_of s contents) same
 
 module _ (laws : ResolvingLaws) (s : Spec) (turns : ℕ) (script : Script) (runs : RunLaws (specification_of s) turns script) (limit done number : ℕ) (A : State) (R : RuleCode)
     (resolved : resolved_rule_in s [] (main_rule s (inits s)) R) (at : number ≡ done + 1) (low : done < limit) (after : IsAfter (specification_of s) turns script done A) where
@@ -101,22 +87,18 @@ module _ (laws : ResolvingLaws) (s : Spec) (turns : ℕ) (script : Script) (runs
     ended : (whole.end ≡ AtFault (done + 1) U) × (whole.last ≡ A)
     ended = runs.faulty done limit A U low after (ap (λ k. (yielded k).result) (sym at) ∙ formed.gives) (first_is_fault U (fault_of (shape_of s) fault) first)
 
-    code_gives : (meaning (shape_of s) turns (pick script number) R [] [] A []).result ≡ Gives U
-    code_gives = ap (λ (o : Outcome). o.result) (laws.means s (main_rule s (inits s)) R turns script number A [] resolved) ∙ formed.gives
-
     -- those of the code are those of the story
     told : coded_here ≡ stands there (story whole.last)
-    told = set_told (shape_of s) turns (pick script number) there R [] [] [] A [] U code_gives ∙ ap (stands there) (same_story ∙ ap story (sym ended.1))
+    told = ap (stands there) (same_story ∙ ap story (sym ended.1))
 
     pub ends_faulty : EndsSo s turns script most whole (clash.Faulty number fault found.first found.count)
     ends_faulty =
-        let yields : (outcome_of code_story).result ≡ Gives U = ap (λ (o : Outcome). o.result) (code_outcomes (shape_of s) turns (pick script number) R [] [] [] A []) ∙ code_gives in (
+        let yields : (outcome_of (story A)).result ≡ Gives U = ap (λ (o : Outcome). o.result) (told_outcomes main.program turns script number A nothing_bound [] main.main) ∙ formed.gives in (
           U,
           ended.0 ∙ ap (λ k. AtFault k U) (sym at),
           record {
             first = first;
-            values = subst (λ (B : State). AreValuesAt U there (stands there (story B))) (sym ended.1)
-                (subst (λ (t : Story). AreValuesAt U there (stands there t)) same_story (standing_laws.in_set there code_story U yields));
+            values = subst (λ (B : State). AreValuesAt U there (stands there (story B))) (sym ended.1) (standing_laws.in_set there (story A) U yields);
             shown = found_there.first ∙ ap (take most) told;
             number = found_there.count ∙ ap (λ k. min k greatest_count) (ap length told);
           },

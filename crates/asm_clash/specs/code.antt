@@ -1,5 +1,4 @@
 -- Bridge to the code. What connects the definitions of this crate to its code.
 pub mod CodedSteps
 pub mod FirstFound
-pub mod StandingCodes
 pub mod StandingRules

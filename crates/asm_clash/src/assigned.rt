@@ -9,8 +9,7 @@ ghost use Rattle.asm_eval.specs.code.Frames.{IsSoundFrame};
 ghost use Rattle.asm_eval.specs.code.Evaluation.{target_in};
 ghost use Rattle.asm_clash.specs.Standing.{assigned_of, all_assigned};
 ghost use Rattle.asm_clash.specs.code.FirstFound.{IsFound};
-ghost use Rattle.asm_clash.specs.code.StandingCodes.{assigned_at};
-ghost use Rattle.asm_clash.specs.code.StandingRules.{detail_at};
+ghost use Rattle.asm_clash.specs.code.StandingRules.{assigned_at, detail_at};
 
 use crate::assignment::Assignment;
 use crate::bound_values::{arguments_given, values_bound};
@@ -21,7 +20,7 @@ use asm_code::rule_code::TargetCode;
 use asm_eval::frame::Frame;
 use asm_eval::target::target_number;
 use asm_eval::value::value;
-use asm_meaning::{Path, View};
+use asm_eval::{Path, View};
 use asm_state::word::Word;
 use std::alloc::{AllocError, Global};
 

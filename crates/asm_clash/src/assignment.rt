@@ -1,5 +1,5 @@
 //! Assignments whose updates stand.
-use asm_meaning::Path;
+use asm_eval::Path;
 use asm_state::word::Word;
 
 /// An assignment whose update stands in the set of a step.
@@ -8,7 +8,8 @@ pub struct Assignment {
     /// Where it is in the rule.
     pub path: Path,
     pub value: Word,
-    /// The values of the arguments of its function: none if it has none, and for `result`.
+    /// The values of the arguments of its target: none if it has none. Those of `result` are those of
+    /// the target of the call.
     pub arguments: Vec<Word>,
     /// The values of the names that are bound there, the innermost first, without `result`. Those
     /// that stand for terms are valued in what the assignment reads.

@@ -7,10 +7,10 @@ ghost use Rattle.asm_clash.specs.code.StandingRules.{arguments_at, bound_at, bou
 
 use asm_code::code::Code;
 use asm_code::rule_code::{RuleCode, TargetCode};
+use asm_eval::View;
 use asm_eval::frame::Frame;
 use asm_eval::laws::member_laws;
 use asm_eval::value::value;
-use asm_meaning::View;
 use asm_state::word::Word;
 use std::alloc::{AllocError, Global};
 

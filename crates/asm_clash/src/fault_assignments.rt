@@ -17,7 +17,7 @@ use crate::standing::standing_in;
 use asm_eval::evaluation::Evaluation;
 use asm_eval::frame::Frame;
 use asm_eval::piece::Piece;
-use asm_meaning::{Choices, Part, Path, View};
+use asm_eval::{Choices, Part, Path, View};
 use asm_reader::Script;
 use asm_state::signature::Signature;
 use asm_state::state::State;

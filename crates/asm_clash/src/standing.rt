@@ -4,14 +4,14 @@ ghost use Rattle.asm_state.specs.Signature.{count_of, location_at};
 ghost use Rattle.asm_state.specs.Updates.{UpdateSet, IsConsistent, fire};
 ghost use Rattle.asm_updates.specs.code.Stands.{Stands};
 ghost use Rattle.asm_meaning.specs.Yields as yields;
-ghost use Rattle.asm_meaning.specs.declared.part.Part.TheVariants as part;
+ghost use Rattle.asm_eval.specs.declared.part.Part.TheVariants as part;
 ghost use Rattle.asm_code.specs.code.RuleMeaning.{AreSoundRules, IsSoundRule};
 ghost use Rattle.asm_code.specs.code.RuleTree as tree;
 ghost use Rattle.asm_code.specs.code.RuleViews.{rule_of, rules_of};
 ghost use Rattle.asm_eval.specs.code.Frames.{IsSoundFrame};
 ghost use Rattle.asm_eval.specs.code.Pieces.{IsPiece};
 ghost use Rattle.asm_eval.specs.code.Evaluation.{rule_upon, evaluation_shape, evaluation_state};
-ghost use Rattle.asm_clash.specs.Standing.{Assigned};
+ghost use Rattle.asm_clash.specs.Standing.{Assigned, later};
 ghost use Rattle.asm_clash.specs.code.FirstFound.{IsFound};
 ghost use Rattle.asm_clash.specs.code.StandingRules.{IsNext, order_in, stands_at, stands_in};
 
@@ -24,16 +24,16 @@ use asm_eval::evaluation::Evaluation;
 use asm_eval::frame::Frame;
 use asm_eval::laws::opening_laws;
 use asm_eval::open::{Opened, open_piece};
+use asm_eval::part_set::PartSet;
 use asm_eval::piece::{Piece, whole_piece};
 use asm_eval::piece_positions::whole_cut;
-use asm_meaning::part_set::PartSet;
-use asm_meaning::{Outcome, Part, Path, View};
+use asm_eval::{Outcome, Part, Path, View};
 use asm_reader::Picks;
 use asm_updates::summary::Summary;
 use std::alloc::{AllocError, Global};
 
 /// The assignments of the piece's rule whose updates stand at the location that is sought, in the
-/// set that the piece yields, in the order of evaluation: the first, and how many there are.
+/// order of evaluation: the first, and how many there are.
 #[cycle(walk)]
 pub fn standing_in<'e, P: Picks>(
     alloc: Global,
@@ -81,7 +81,8 @@ pub fn standing_in<'e, P: Picks>(
     }
 }
 
-/// The same of the parts one after the other, up to the first whose set is faulty.
+/// The same of the parts one after the other, up to the first that is exhausted or whose set is
+/// faulty.
 #[cycle(walk)]
 fn standing_in_order<'e, P: Picks>(
     alloc: Global,
@@ -123,7 +124,8 @@ fn standing_in_order<'e, P: Picks>(
     Ok(found)
 }
 
-/// The same of turns of the body one after the other, up to the first whose set is empty or faulty.
+/// The same of turns of the body one after the other, up to the first that is exhausted or whose set
+/// is empty or faulty.
 #[cycle(walk)]
 fn standing_in_turns<'e, P: Picks>(
     alloc: Global,
@@ -186,9 +188,8 @@ fn standing_next<'e, P: Picks>(
     ensures next { let p = yields.at path.now number in
         let l = location_at (evaluation_shape evaluation.now) sought.now.location in
         IfOk result (λ part. (U : UpdateSet) (before : List Assigned) → Stands (evaluation_shape evaluation.now) so_far.old U → IsConsistent U → IsFound sought.now.most before found.old →
-        (now : List Assigned) × IsFound sought.now.most now found.new ×
-        IsNext (evaluation_shape evaluation.now) U (rule_upon evaluation.now U frame.now p (rule_of rule.now)).result
-        (stands_in evaluation.now l sought.now.given.now frame.now p (rule_of rule.now) (fire (evaluation_state evaluation.now) U)) before now so_far.new part) }
+        IsFound sought.now.most (later before (stands_in evaluation.now l sought.now.given.now frame.now p (rule_of rule.now) (fire (evaluation_state evaluation.now) U))) found.new ×
+        IsNext (evaluation_shape evaluation.now) U (rule_upon evaluation.now U frame.now p (rule_of rule.now)).result so_far.new part) }
 {
     let path = Path::below(alloc, path, number)?;
     let piece = Piece {
@@ -203,14 +204,14 @@ fn standing_next<'e, P: Picks>(
         choices: evaluation.choices,
         turns: evaluation.turns,
     };
+    let own = standing_in(alloc, &inner, &piece, sought)?;
+    found.put_later(own);
     let outcome = whole_piece(alloc, &inner, &piece)?;
     match outcome {
         Outcome::Exhausted(_) => Ok(None),
         Outcome::Set { set, .. } => {
-            let own = standing_in(alloc, &inner, &piece, sought)?;
             let part = PartSet::of(evaluation.view.signature, &set);
             so_far.merge_with(&set)?;
-            found.put_later(own);
             Ok(Some(part))
         }
     }

@@ -2,7 +2,7 @@
 --     IsFound most all found      those that were found are the first of all, at most so many, and
 --                                 their number is that of all
 use Rattle.std.specs.Prelude.{◌≡◌, ℕ, List, length, min, take}
-use Rattle.asm_meaning.specs.code.FormedOutcomes.{greatest_count}
+use Rattle.asm_eval.specs.code.FormedOutcomes.{greatest_count}
 use Rattle.asm_clash.specs.Standing.{Assigned, all_assigned}
 use Rattle.asm_clash.specs.declared.found.Found.{Found}
 

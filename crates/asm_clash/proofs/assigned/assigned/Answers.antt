@@ -6,7 +6,7 @@ use Rattle.asm_clash.specs.code.FirstFound.{IsFound}
 use Rattle.asm_clash.specs.code.StandingRules.{detail_at}
 use Rattle.asm_clash.specs.declared.found.Found.{Found}
 use Rattle.asm_clash.proofs.Founds.{one_found}
-use Rattle.asm_clash.proofs.Leaves.{elsewhere, here, no_number, none_here, some_below}
+use Rattle.asm_clash.proofs.Leaves.{elsewhere, here, not_some, none_here, some_below}
 use Rattle.asm_clash.proofs.assigned.assigned.Goals as goal
 
 pub returns-in_default : goal.returns-in_default
@@ -17,7 +17,7 @@ returns-in_default c =
     let n = a.sought.now.location in
     let d = detail_at v a.frame.now a.sought.now.given.now (target_code_of a.place.now) (code_of a.term.now) a.path.now in
     subst (λ xs. IsFound a.sought.now.most xs c.none-found.result)
-    (none_here shape n (target_in v a.frame.now (target_code_of a.place.now)) c.in_ok-m.field-0 d c.in_ok-m.ensures.location (no_number c.in_ok-m.field-0 c.in_default.not-Some))
+    (none_here shape n (target_in v a.frame.now (target_code_of a.place.now)) c.in_ok-m.field-0 d c.in_ok-m.ensures.location (not_some c.in_ok-m.field-0 c.in_default.not-Some))
     (c.none-found.ensures a.sought.now.most)
 
 pub returns-then-m-sought : goal.returns-then-m-sought

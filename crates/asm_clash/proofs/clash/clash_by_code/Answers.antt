@@ -5,7 +5,7 @@ use Rattle.asm_syntax.specs.code.Views.{spec_of}
 use Rattle.asm_updates.specs.code.Stands.{Stands}
 use Rattle.asm_meaning.specs.Does.{Outcome}
 use Rattle.asm_meaning.specs.Run.{IsAfter}
-use Rattle.asm_meaning.specs.code.FormedOutcomes.{IsSet, IsStoppedAt}
+use Rattle.asm_eval.specs.code.FormedOutcomes.{IsSet, IsStoppedAt}
 use Rattle.asm_meaning.specs.Yields.{Exhausted}
 use Rattle.asm_code.specs.code.RuleViews.{rule_of}
 use Rattle.asm_step.specs.code.Steps.{shape_in, specification_in, step_in}

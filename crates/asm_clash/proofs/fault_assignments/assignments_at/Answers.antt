@@ -1,12 +1,12 @@
-use Rattle.std.proofs.Common.{◌≡◌, ◌<◌, ◌∙◌, [], sym, subst}
+use Rattle.std.proofs.Common.{◌≡◌, ◌<◌, ◌∙◌, [], ap, sym, subst}
 use Rattle.asm_state.specs.Signature.{Shape, count_of, location_at, state_of}
 use Rattle.asm_reader.specs.ScriptLines.{pick}
-use Rattle.asm_meaning.specs.code.TermValues.{shown}
+use Rattle.asm_eval.specs.code.ShownViews.{shown}
+use Rattle.asm_code.specs.code.RuleStories.{telling}
 use Rattle.asm_code.specs.code.RuleViews.{rule_of}
 use Rattle.asm_step.specs.code.Steps.{shape_in}
+use Rattle.asm_clash.specs.Standing.{stands}
 use Rattle.asm_clash.specs.code.FirstFound.{IsFound}
-use Rattle.asm_clash.specs.code.StandingCodes.{standing}
-use Rattle.asm_clash.proofs.Steps.{nothing_over}
 use Rattle.asm_clash.proofs.fault_assignments.assignments_at.Goals as goal
 
 pub standing_in-requires-clause-number : goal.standing_in-requires-clause-number
@@ -20,10 +20,10 @@ returns c =
     let same = c.signature-signature.ensures in
     let viewed : c.new-view.result.signature.now ≡ shape = c.new-view.ensures.parts.0 ∙ same in
     let shows : shown c.new-view.result ≡ state_of shape a.state.now =
-    nothing_over c.signature-signature.result.now shape c.new-nothing.result a.state.now (shown c.new-view.result) same (c.new-nothing.ensures.empty c.signature-signature.result.now c.count.ensures.sound c.count.ensures.count)
-    (λ U stands consistent. c.new-view.ensures.fired U stands consistent) in
+    c.new-view.ensures.alone (c.new-nothing.ensures.empty c.signature-signature.result.now c.count.ensures.sound c.count.ensures.count)
+    ∙ ap (λ sh. state_of sh a.state.now) same in
     let top : c.new-2.result ≡ [] = c.new-2.ensures ∙ c.new.ensures.items in
     let chosen = pick a.choices.now.script.now a.choices.now.step in
     subst (λ xs. IsFound a.most xs c.in_ok-found.found)
-    (λ j. standing (viewed j) m.turns chosen (location_at (viewed j) a.location) (rule_of m.code.now) [] [] [] (shows j) (top j))
+    (λ j. stands (location_at (viewed j) a.location) (telling (viewed j) m.turns chosen (rule_of m.code.now) [] [] [] (shows j) (top j)))
     c.in_ok-found.ensures

@@ -3,10 +3,9 @@ use Rattle.asm_state.specs.Signature.{count_of, location_at}
 use Rattle.asm_code.specs.code.RuleMeaning.{rule_size, rule_sizes}
 use Rattle.asm_code.specs.code.RuleTree as tree
 use Rattle.asm_code.specs.code.RuleViews.{rule_of, rules_of}
-use Rattle.asm_eval.specs.code.Frames.{readings_of}
 use Rattle.asm_eval.specs.code.Opening.{work_of}
-use Rattle.asm_eval.specs.code.Evaluation.{evaluation_choices, frame_locations, evaluation_shape, evaluation_state}
-use Rattle.asm_clash.specs.code.StandingRules.{order_in, stands_at}
+use Rattle.asm_eval.specs.code.Evaluation.{evaluation_choices, evaluation_shape, evaluation_state}
+use Rattle.asm_clash.specs.code.StandingRules.{order_story, stands_at, story_in}
 use Rattle.asm_clash.specs.Standing.{Assigned}
 use Rattle.asm_clash.specs.code.FirstFound.{IsFound}
 use Rattle.asm_clash.proofs.OpenedRules.{works_stand}
@@ -49,9 +48,8 @@ invariant-standing_in_order-loop-i g l =
       counted : l.so_far.count ≡ count_of shape;
       stand : List Assigned;
       kept : IsFound l.sought.most stand l.found;
-      walked : IsWalked shape (evaluation_state r) (order_in r at l.sought.given.now l.frame l.path 0 (rules_of (map rule_of l.parts)) (evaluation_state r))
-          (order_left shape r.turns (evaluation_choices r) at (readings_of shape l.frame) (frame_locations shape l.frame) l.sought.given.now l.path l.parts l.i)
-          stand l.so_far;
+      walked : IsWalked shape at (evaluation_state r) (order_story r l.sought.given.now l.frame l.path 0 (rules_of (map rule_of l.parts)) (evaluation_state r))
+          (order_left r l.sought.given.now l.frame l.path l.parts l.i) stand l.so_far;
     }
 
 -- the sets of the turns so far, and what is left of the turns
@@ -64,7 +62,6 @@ invariant-standing_in_turns-loop-turn g l =
       counted : l.so_far.count ≡ count_of shape;
       stand : List Assigned;
       kept : IsFound l.sought.most stand l.found;
-      walked : IsWalked shape (evaluation_state r) (stands_at r at l.sought.given.now l.frame l.path (tree.Iterate (rule_of l.body)))
-          (turns_left shape r.turns (evaluation_choices r) at (readings_of shape l.frame) (frame_locations shape l.frame) l.sought.given.now l.path (rule_of l.body) l.turn)
-          stand l.so_far;
+      walked : IsWalked shape at (evaluation_state r) (story_in r l.sought.given.now l.frame l.path (tree.Iterate (rule_of l.body)) (evaluation_state r))
+          (turns_left r l.sought.given.now l.frame l.path (rule_of l.body) l.turn) stand l.so_far;
     }
