@@ -1,10 +1,10 @@
 mod AndLinks
 mod AskedTerms
-mod BareViews
 mod BetweenLines
 mod ConditionLines
 mod JoinedTerms
 mod PrintedScripts
+mod ShownEnds
 mod SkippedLines
 mod ToldEnds
 mod TraceText

@@ -3,9 +3,11 @@
 --     IsBroken spec terms A words      of the conditions the first that isn't true in the state:
 --                                      its number, from 1, and its value
 --     unwritten_words                  what is said of a run whose script can't be written
---     FaultTells, BadTells             of a run that was found the words are those for its end, as
---                                      its trace has them, or of its last state; a deadlock is
---                                      called so
+--     EndsBy fault step end            a run that shows the fault of this step ends so
+--     AreFaultWords                    the words are those for the end of the run, as its trace has
+--                                      them, or of its last state; a deadlock is called so
+--     FaultTells, BadTells             the run that was found ends by the fault, in its step, and
+--                                      these are its words
 use Rattle.std.specs.Prelude.{◌≡◌, ℕ, suc, true, false, List, ◌∷◌, ◌++◌, length, codes, decimal}
 use Rattle.std.specs.String.{string_bytes}
 use Rattle.std.specs.List.{list_all}
@@ -17,8 +19,9 @@ use Rattle.asm_reader.specs.ScriptLines.{Script}
 use Rattle.asm_reader.specs.ScriptText.{IsScript}
 use Rattle.asm_meaning.specs.Declarations.{program_of, specification_of}
 use Rattle.asm_meaning.specs.Program.{nothing_bound}
-use Rattle.asm_meaning.specs.Run.{Run, run}
+use Rattle.asm_meaning.specs.Run.{AtExhausted, AtFault, AtLimit, End, Run, run}
 use Rattle.asm_meaning.specs.Value.{is_true, value}
+use Rattle.asm_explore.specs.Search.{steps_to}
 use Rattle.asm_explore.specs.declared.exploration_result.BadRun.{BadRun}
 use Rattle.asm_explore.specs.declared.fault.Fault.{Fault}
 use Rattle.asm_explore.specs.declared.fault.Fault.TheVariants.{Exhausted, Inconsistent, Wrong, Deadlock}
@@ -44,16 +47,25 @@ pub record IsBroken (s : Spec) (terms : List Term) (A : State) (words : List ℕ
 abbrev pub unwritten_words : List ℕ
 unwritten_words = codes "its script can't be written"
 
-module _ (s : Spec) (terms : List Term) (turns : ℕ) where
-  -- of the run under the script with this text
-  abbrev pub IsOfRun : (P : Run → Type 0) → (script_text : List ℕ) → (step : ℕ) → Type 0
-  IsOfRun P script_text step = (script : Script) → IsScript script_text script → P (run (specification_of s) turns script step)
+-- a step that goes wrong is the last one; a state that is wrong is come to by all steps
+abbrev pub EndsBy : Fault → (step : ℕ) → End → Type 0
+EndsBy Exhausted step (AtExhausted i p) = i ≡ step
+EndsBy Inconsistent step (AtFault i U) = i ≡ step
+EndsBy Wrong step AtLimit = Unit {0}
+EndsBy Deadlock step AtLimit = Unit {0}
+EndsBy fault step end = ⊥
 
+module _ (s : Spec) (terms : List Term) (turns : ℕ) where
+  abbrev pub AreFaultWords : Fault → Run → (words : List ℕ) → Type 0
+  AreFaultWords Exhausted r words = IsEndWords (names_in s) r.end words
+  AreFaultWords Inconsistent r words = IsEndWords (names_in s) r.end words
+  AreFaultWords Wrong r words = IsBroken s terms r.last words
+  AreFaultWords Deadlock r words = words ≡ codes "deadlock"
+
+  -- of the run under the script with this text
   abbrev pub FaultTells : Fault → (script_text : List ℕ) → (step : ℕ) → (words : List ℕ) → Type 0
-  FaultTells Exhausted script_text step words = IsOfRun (λ r. IsEndWords (names_in s) r.end words) script_text step
-  FaultTells Inconsistent script_text step words = IsOfRun (λ r. IsEndWords (names_in s) r.end words) script_text step
-  FaultTells Wrong script_text step words = IsOfRun (λ r. IsBroken s terms r.last words) script_text step
-  FaultTells Deadlock script_text step words = words ≡ codes "deadlock"
+  FaultTells fault script_text step words = (script : Script) → IsScript script_text script →
+      let r = run (specification_of s) turns script (steps_to fault step) in EndsBy fault step r.end × AreFaultWords fault r words
 
   abbrev pub BadTells : BadRun → (words : List ℕ) → Type 0
   BadTells bad words = FaultTells bad.fault (string_bytes bad.script) bad.step words

@@ -1,5 +1,6 @@
 //! The condition that isn't true in a state.
-ghost use Rattle.std.specs.Prelude.{◌≡◌, List, Option, Some, length, IfOk, IfSome};
+ghost use Rattle.std.specs.Prelude.{◌≡◌, true, List, Option, Some, length, IfNone, IfOk, IfSome};
+ghost use Rattle.std.specs.List.{list_all};
 ghost use Rattle.asm_state.specs.Signature.{count_of, state_of};
 ghost use Rattle.asm_state.specs.declared.operation.Op.{Op};
 ghost use Rattle.asm_syntax.specs.code.Views.{spec_of, term_of};
@@ -10,8 +11,8 @@ ghost use Rattle.asm_explore_texts.specs.code.CodedConditions.{IsJoined, terms_i
 ghost use Rattle.asm_explore_report.specs.FaultWords.{IsBroken, broken_words, value_in};
 
 use asm_check::Checked;
+use asm_eval::View;
 use asm_explore_texts::conditions::parts;
-use asm_meaning::View;
 use asm_run::locations::push_value;
 use asm_state::state::State;
 use asm_state::value::Value;
@@ -71,8 +72,10 @@ pub(crate) fn broken_in(
     state: &State,
 ) -> Result<Option<Vec<u8>>, AllocError>
     requires { length state.now ≡ count_of (shape_of (spec_of checked.now.spec)) }
-    ensures { (links : List (Op × Code)) → IsJoined links always.now →
+    ensures found { (links : List (Op × Code)) → IsJoined links always.now →
         IfOk result (λ found. IfSome found (λ words. IsBroken (spec_of checked.now.spec) (terms_in links) (state_of (shape_of (spec_of checked.now.spec)) state.now) words.items)) }
+    ensures all_true { let s = spec_of checked.now.spec in (links : List (Op × Code)) → IsJoined links always.now →
+        IfOk result (λ found. IfNone found (list_all (λ t. is_true (value_in s t (state_of (shape_of s) state.now))) (terms_in links) ≡ true)) }
 {
     let links = parts(always);
     for k in 0..links.len() {

@@ -1,7 +1,9 @@
-use Rattle.std.proofs.Common.{◌≡◌, ◌∙◌, ◌+◌, ◌∷◌, ◌++◌, suc, take, drop, length, sym, ap, arith}
-use Rattle.std.proofs.lemmas.List.{drop_more, length-map, length-take-le, map-append, take-append-drop}
+use Rattle.std.proofs.Common.{◌≡◌, Bool, List, ◌∙◌, ◌+◌, ◌∷◌, ◌++◌, suc, take, drop, length, sym, ap, arith}
+use Rattle.std.specs.List.{list_all}
+use Rattle.std.proofs.lemmas.List.{drop_more, length-map, length-take-le, map-append, take-append-drop, take_all}
 use Rattle.asm_state.specs.Signature.{state_of}
 use Rattle.asm_state.specs.declared.operation.Op.{Op}
+use Rattle.asm_syntax.specs.SourceTree.{Term as Source}
 use Rattle.asm_syntax.specs.code.Views.{spec_of, term_of}
 use Rattle.asm_syntax.specs.declared.term.Term.{Term}
 use Rattle.asm_check.specs.Shapes.{shape_of}
@@ -11,8 +13,8 @@ use Rattle.asm_explore_texts.specs.code.CodedConditions.{terms_in}
 use Rattle.asm_explore_report.proofs.AskedTerms.{all_terms}
 use Rattle.asm_explore_report.proofs.broken_condition.broken_in.Goals as goal
 
-pub returns-then-not-is_truth : goal.returns-then-not-is_truth
-returns-then-not-is_truth c links joined =
+pub returns-then-not-is_truth-clause-found : goal.returns-then-not-is_truth-clause-found
+returns-then-not-is_truth-clause-found c links joined =
     let checked = c.args.checked.now in
     let items = c.parts-links.result.now in
     let same : items ≡ links = c.parts-links.ensures links joined in
@@ -34,3 +36,13 @@ returns-then-not-is_truth c links joined =
       broken = sym (ap is_true value) ∙ (sym c.is_truth.ensures ∙ c.if-not-is_truth.true);
       are = words ∙ (λ i. broken_words (spec_of checked.spec) (number i) (value i));
     }
+
+pub returns-clause-all_true : goal.returns-clause-all_true
+returns-clause-all_true c links joined =
+    let s = spec_of c.args.checked.now.spec in
+    let items = c.parts-links.result.now in
+    let same : items ≡ links = c.parts-links.ensures links joined in
+    let k = c.loop-k.k in
+    let whole : take k items ≡ items = take_all k items (omega (arith, c.loop-k-test.false)) in
+    let holds : Source → Bool = λ t. is_true (value_in s t (state_of (shape_of s) c.args.state.now)) in
+    ap (λ (some : List (Op × Term)). list_all holds (terms_in some)) (sym same ∙ sym whole) ∙ all_terms holds (take k items) ∙ c.loop-k.invariant

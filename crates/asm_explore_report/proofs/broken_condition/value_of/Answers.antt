@@ -5,8 +5,8 @@ use Rattle.asm_syntax.specs.code.Views.{spec_of, term_of}
 use Rattle.asm_check.specs.Shapes.{shape_of}
 use Rattle.asm_meaning.specs.Program.{nothing_bound}
 use Rattle.asm_meaning.specs.Value.{value}
-use Rattle.asm_meaning.specs.code.TermValues.{program, shown}
-use Rattle.asm_explore_report.proofs.BareViews.{nothing_over}
+use Rattle.asm_meaning.specs.code.TermValues.{program}
+use Rattle.asm_eval.specs.code.ShownViews.{shown}
 use Rattle.asm_explore_report.proofs.broken_condition.value_of.Goals as goal
 
 pub returns : goal.returns
@@ -17,6 +17,5 @@ returns c =
     let signature = c.signature-signature.result.now in
     let same : signature ≡ shape = c.signature-signature.ensures in
     let shows : shown c.new-view.result ≡ state_of shape a.state.now =
-    nothing_over signature shape c.new-nothing.result a.state.now (shown c.new-view.result) same
-    (c.new-nothing.ensures.empty signature c.count.ensures.sound c.count.ensures.count) (λ U stands consistent. c.new-view.ensures.fired U stands consistent) in
+    c.new-view.ensures.alone (c.new-nothing.ensures.empty signature c.count.ensures.sound c.count.ensures.count) ∙ ap (λ sh. state_of sh a.state.now) same in
     c.in_ok-value.ensures ∙ ap (λ A. value (program checked) A nothing_bound (plain_term (term_of a.term.now))) shows

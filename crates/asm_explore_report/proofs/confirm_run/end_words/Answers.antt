@@ -1,4 +1,4 @@
-use Rattle.std.proofs.Common.{◌≡◌, List, ℕ, sym, ap, subst}
+use Rattle.std.proofs.Common.{◌≡◌, List, ℕ, sym, ap, subst, ◌∙◌}
 use Rattle.std.specs.String.{string_bytes}
 use Rattle.asm_syntax.specs.SourceTree.{Spec}
 use Rattle.asm_syntax.specs.code.Views.{spec_of}
@@ -6,6 +6,7 @@ use Rattle.asm_reader.specs.ScriptLines.{Script}
 use Rattle.asm_reader.specs.ScriptText.{IsScript}
 use Rattle.asm_explore.specs.Search.{steps_to}
 use Rattle.asm_run.specs.Headline.{IsReturned, book_run}
+use Rattle.asm_explore_report.proofs.ShownEnds.{shown_ends}
 use Rattle.asm_explore_report.proofs.confirm_run.end_words.Goals as goal
 
 pub returns : goal.returns
@@ -24,4 +25,6 @@ returns g c accepted script spelled =
     subst (λ (n : ℕ). IsReturned (book_run s turns script n).end end) steps
     (subst (λ (x : Script). IsReturned (book_run s turns x run.steps).end end) same_script
     (subst (λ (t : Spec). IsReturned (book_run t turns ends.script run.steps).end end) same_tree ends.answered)) in
-    c.in_ok-words.ensures (book_run s turns script (steps_to bad.fault bad.step)).end answered
+    let e = (book_run s turns script (steps_to bad.fault bad.step)).end in
+    let ends_by = shown_ends bad.step bad.fault e end answered (sym c.shows.ensures ∙ c.if-not-shows.false) in
+    (ends_by, c.in_ok-words.ensures e answered)
