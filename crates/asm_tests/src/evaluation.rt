@@ -3,6 +3,7 @@ mod endings;
 mod pieces;
 mod refusals;
 mod rows;
+mod steps;
 mod terms;
 
 ghost use Rattle.std.specs.Prelude.{◌≡◌};
@@ -15,7 +16,7 @@ use asm_eval::evaluation::Evaluation;
 use asm_eval::form::form;
 use asm_eval::frame::Frame;
 use asm_eval::regions::OnThisThread;
-use asm_meaning::{Choices, Forming, Outcome, Stopped, View};
+use asm_eval::{Choices, Forming, Outcome, Stopped, View};
 use asm_reader::Picks;
 use asm_resolve::main_rule::resolve_main;
 use std::alloc::{AllocError, Global};
