@@ -37,6 +37,31 @@ static ROWS: [Row; 3] = [
     ("iterate x := x + 1 enditerate endif", Third::Exhausted),
 ];
 
+/// The end of the run by this fault.
+fn of_fault(fault: &Fault) -> Third {
+    match fault {
+        Fault::Clash { location: 0, .. } => Third::Clash,
+        Fault::Clash { .. } | Fault::Outside { .. } => Third::Other,
+    }
+}
+
+/// The end of the run by the rule at this path.
+fn of_path(path: &[u64]) -> Third {
+    match path {
+        [1] => Third::Exhausted,
+        _ => Third::Other,
+    }
+}
+
+/// What comes of this step.
+fn third_of_step(step: &Step) -> Third {
+    match step {
+        Step::Next(_) => Third::Next,
+        Step::Faulty(fault) => of_fault(fault),
+        Step::Exhausted(path) => of_path(path.as_slice()),
+    }
+}
+
 /// What comes of the third step of the run with the first candidates.
 fn third_step(alloc: Global, resolved: &ResolvedSpecification<'_>) -> Result<Third, AllocError>
     requires { HasMainRule resolved.now }
@@ -49,12 +74,8 @@ fn third_step(alloc: Global, resolved: &ResolvedSpecification<'_>) -> Result<Thi
         script: &script,
         step: 3,
     };
-    match make_step(alloc, resolved, &choices, &state)? {
-        Step::Next(_) => Ok(Third::Next),
-        Step::Faulty(Fault::Clash { location: 0, .. }) => Ok(Third::Clash),
-        Step::Exhausted(path) if path.as_slice() == [1].as_slice() => Ok(Third::Exhausted),
-        Step::Faulty(_) | Step::Exhausted(_) => Ok(Third::Other),
-    }
+    let made = make_step(alloc, resolved, &choices, &state)?;
+    Ok(third_of_step(&made))
 }
 
 /// Whether the run comes to a state after three steps.
