@@ -144,12 +144,14 @@ module _ (asked : AskedQuestion) where
       (file ≡ Some name.now) × ((lines : List (List ℕ)) × (drawn : List MadeFile) × IsDrawn file lines drawn × StopsAt old new name.now drawn)
   ExplainsDrawing file old new (fault.Text refused) = ⊥
   ExplainsDrawing file old new (fault.QuietScript name) = ⊥
+  ExplainsDrawing file old new (fault.Name name) = ⊥
   ExplainsDrawing file old new fault.Unconfirmed = ⊥
 
 abbrev pub ExplainsScript : (file : Option (List ℕ)) → Option QuietRun → (old new : Option (List MadeFile)) → Fault → Type 0
 ExplainsScript file run old new (fault.QuietScript name) = (file ≡ Some name.now) × StopsAt old new name.now (quiet_files file run)
 ExplainsScript file run old new fault.Memory = ⊥
 ExplainsScript file run old new (fault.Graph name) = ⊥
+ExplainsScript file run old new (fault.Name name) = ⊥
 ExplainsScript file run old new (fault.Text refused) = ⊥
 ExplainsScript file run old new fault.Unconfirmed = ⊥
 

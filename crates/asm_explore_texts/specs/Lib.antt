@@ -1,4 +1,6 @@
+pub mod Comments
 pub mod Conditions
+pub mod Places
 pub mod Positions
 pub mod RefusedTexts
 pub mod code
