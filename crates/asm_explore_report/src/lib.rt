@@ -10,6 +10,7 @@ pub mod commented;
 mod confirm_run;
 pub mod ended;
 pub mod facts;
+pub mod fault_told;
 pub mod fault_words;
 pub mod first_line;
 pub mod laws;

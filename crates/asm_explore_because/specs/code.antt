@@ -1,0 +1,2 @@
+-- Bridge to the code. What connects the definitions of this crate to its code.
+pub mod CodedParts

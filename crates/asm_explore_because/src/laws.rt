@@ -1,0 +1,13 @@
+//! Laws of the parts that decide.
+ghost use Rattle.asm_explore_because.specs.DecidingLaws.{FollowsFromLine, FollowsFromPart};
+
+use asm_meaning::laws::{specifications_are_ranked, valued_by_cases};
+
+/// That a condition isn't true follows from the part that decides it.
+pub fn deciding_laws()
+    ensures part { FollowsFromPart }
+    ensures line { FollowsFromLine }
+{
+    valued_by_cases();
+    specifications_are_ranked();
+}
