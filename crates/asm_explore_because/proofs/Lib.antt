@@ -1,0 +1,3 @@
+pub mod PrintedTexts
+pub mod TruthValues
+pub mod Deciding

@@ -10,7 +10,7 @@
 --     Decides spec A p q       q decides p in the end: it is come to from p by one part after the
 --                              other, and no part of it decides
 --     whole t                  a condition as a whole, which is to be true
-use Rattle.std.specs.Prelude.{◌≡◌, Bool, true, false, not, ◌&&◌, ◌||◌, cond, find, List, [], ◌∷◌, map, Option, Some, None}
+use Rattle.std.specs.Prelude.{◌≡◌, Bool, true, false, not, ◌&&◌, cond, find, List, [], ◌∷◌, map, Option, Some, None}
 use Rattle.std.specs.List.{list_all, list_any}
 use Rattle.asm_state.specs.declared.operation.Op.{Op}
 use Rattle.asm_state.specs.declared.operation.Op.TheVariants as op
@@ -18,7 +18,7 @@ use Rattle.asm_state.specs.declared.value.Value.{Value}
 use Rattle.asm_state.specs.declared.value.Value.TheVariants.{Undef, Truth}
 use Rattle.asm_state.specs.Location.{State}
 use Rattle.asm_syntax.specs.PlainTree.{plain_term}
-use Rattle.asm_syntax.specs.SourceTree.{Name, Term, Constant, Named, Chain, Not, Negative, Exists, Every, Result, Terms, no_terms, term_then, Links, no_links, link_then, Spec}
+use Rattle.asm_syntax.specs.SourceTree.{Term, Constant, Named, Chain, Not, Negative, Exists, Every, Result, Terms, no_terms, term_then, Links, no_links, link_then, Spec}
 use Rattle.asm_syntax.specs.Tree as tree
 use Rattle.asm_check.specs.Names as names
 use Rattle.asm_check.specs.Names.{Meaning, text_of}

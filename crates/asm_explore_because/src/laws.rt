@@ -1,7 +1,9 @@
 //! Laws of the parts that decide.
 ghost use Rattle.asm_explore_because.specs.DecidingLaws.{FollowsFromLine, FollowsFromPart};
 
-use asm_meaning::laws::{specifications_are_ranked, valued_by_cases};
+use asm_meaning::laws::{
+    program_declares, specifications_are_ranked, term_weights_fall, valued_by_cases,
+};
 
 /// That a condition isn't true follows from the part that decides it.
 pub fn deciding_laws()
@@ -10,4 +12,6 @@ pub fn deciding_laws()
 {
     valued_by_cases();
     specifications_are_ranked();
+    program_declares();
+    term_weights_fall();
 }
