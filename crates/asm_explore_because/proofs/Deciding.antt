@@ -1,7 +1,7 @@
 -- Free. That a condition isn't true follows from the part that decides it.
 --     follows        what is wanted of a part isn't so, if it isn't so of the part that decides it
 --     still_fails    and the other way round
---     part_weight    a number that falls from a part to the one that decides it
+--     valued_of      what is asked of the meaning of terms, by its laws
 use Rattle.std.proofs.Common.{◌≡◌, ◌<◌, ℕ, Bool, true, false, cond, not, ◌&&◌, ◌||◌, List, [], ◌∷◌, map, Option, Some, None, refl, sym, ap, subst, ◌∙◌, arith}
 use Rattle.std.specs.Prelude.{find}
 use Rattle.std.specs.List.{list_all}
@@ -13,17 +13,20 @@ use Rattle.asm_state.specs.declared.value.Value.TheVariants.{Undef}
 use Rattle.asm_syntax.specs.PlainTree.{plain_term, plain_terms, plain_links}
 use Rattle.asm_syntax.specs.SourceTree.{Name, Term, Constant, Named, Chain, Not, Negative, Exists, Every, Result, Terms, no_terms, term_then, Links, no_links, link_then, Spec}
 use Rattle.asm_syntax.specs.Tree as tree
+use Rattle.asm_check.specs.Faults.{IsWellFormed}
 use Rattle.asm_check.specs.Names as names
 use Rattle.asm_check.specs.Names.{Meaning, text_of}
 use Rattle.asm_check.specs.Numbers.{declared_with_number, derived_of, named}
 use Rattle.asm_check.specs.declared.checked.NameNumber.{NameNumber}
 use Rattle.asm_check.specs.declared.checked.NameNumber.TheVariants as number
-use Rattle.asm_meaning.specs.Declarations.{body_of, numbered, declared_in_program, program_of}
+use Rattle.asm_meaning.specs.Declarations.{ProgramDeclares, body_of, numbered, declared_in_program, program_of}
 use Rattle.asm_meaning.specs.Program.{Derived, Environment, declared, with_value, bind_values, bound_to, is_name, ToValue}
-use Rattle.asm_meaning.specs.code.Weights.{WeightsFall, weight}
-use Rattle.asm_meaning.specs.TermCases.{TermCases, chain_value}
+use Rattle.asm_meaning.specs.SpecificationLaw.{SpecificationsAreRanked}
+use Rattle.asm_meaning.specs.code.Weights.{TermWeightsFall, WeightsFall, weight}
+use Rattle.asm_meaning.specs.TermCases.{TermCases, ValuedByCases, chain_value}
 use Rattle.asm_meaning.specs.Value.{is_true, nesting, universe, value, values}
 use Rattle.asm_explore_because.specs.Parts.{Bound, Part, Decides, itself, by_way_of, are_decisive, decides_with, deciding_operand, element_part, environment_of, fails, fails_with, inner_part, is_boolean, is_bound, is_decisive, is_truth, named_part, body_part, next, next_in, operands, parameters, value_under, values_under}
+use Rattle.asm_explore_because.specs.code.PartWeights.{part_weight}
 use Rattle.asm_explore_because.proofs.TruthValues.{Joins, decided_fails, every_fails, exists_fails, found_counts, found_has, found_is_one, found_passes, joins_boolean, joins_truth, negation_fails, strictly_fails, weaker}
 
 -- ---- bound names
@@ -41,10 +44,6 @@ pub same_parameters : (xs : List tree.Name) (vs : List Value) → environment_of
 same_parameters [] vs = refl
 same_parameters (x ∷ xs) [] = ap (with_value x Undef) (same_parameters xs [])
 same_parameters (x ∷ xs) (v ∷ vs) = ap (with_value x v) (same_parameters xs vs)
-
--- a number that falls from a part to the one that decides it
-abbrev pub part_weight : Spec → Part → ℕ
-part_weight s p = weight (program_of s) (environment_of p.bound) (plain_term p.term)
 
 module _ (s : Spec) (A : State) where
   pub same_values : (bound : Bound) (ts : Terms) → values (program_of s) A (environment_of bound) (plain_terms ts) ≡ values_under s A bound ts
@@ -147,7 +146,7 @@ module _ (s : Spec) (A : State) where
     every_step true strictly bound x u t q is = element (find (λ v. not (is_true (value_under s A ((x.text, v) ∷ bound) t))) (universe (program_of s) u.text)) refl is
       where
         element : (o : Option Value) → find (λ v. not (is_true (value_under s A ((x.text, v) ∷ bound) t))) (universe (program_of s) u.text) ≡ o
-            → element_part s A (part_at (Every x u t) bound true strictly) x.text t o ≡ Some q → Steps (part_at (Every x u t) bound true strictly) q
+            → element_part (part_at (Every x u t) bound true strictly) x.text t o ≡ Some q → Steps (part_at (Every x u t) bound true strictly) q
         element None found is = cc
         element (Some v) found is =
             let p : Part = part_at t ((x.text, v) ∷ bound) true false in
@@ -173,7 +172,7 @@ module _ (s : Spec) (A : State) where
     exists_step false strictly bound x u t q is = element (find (λ v. is_true (value_under s A ((x.text, v) ∷ bound) t)) (universe (program_of s) u.text)) refl is
       where
         element : (o : Option Value) → find (λ v. is_true (value_under s A ((x.text, v) ∷ bound) t)) (universe (program_of s) u.text) ≡ o
-            → element_part s A (part_at (Exists x u t) bound false strictly) x.text t o ≡ Some q → Steps (part_at (Exists x u t) bound false strictly) q
+            → element_part (part_at (Exists x u t) bound false strictly) x.text t o ≡ Some q → Steps (part_at (Exists x u t) bound false strictly) q
         element None found is = cc
         element (Some v) found is =
             let p : Part = part_at t ((x.text, v) ∷ bound) false true in
@@ -258,7 +257,7 @@ module _ (s : Spec) (A : State) where
         all = t ∷ operands links
 
         some : (o : Option Term) → are_decisive w links ≡ true → (strictly && not (list_all (λ u. is_boolean (value_under s A bound u)) all)) ≡ false
-            → find (λ u. decides_with w (value_under s A bound u)) all ≡ o → inner_part s A (part_at (Chain t links) bound w strictly) o ≡ Some q
+            → find (λ u. decides_with w (value_under s A bound u)) all ≡ o → inner_part (part_at (Chain t links) bound w strictly) o ≡ Some q
             → Steps (part_at (Chain t links) bound w strictly) q
         some None are boolean found is = cc
         some (Some u) are boolean found is =
@@ -266,13 +265,13 @@ module _ (s : Spec) (A : State) where
             subst (Steps (part_at (Chain t links) bound w strictly)) same (operand_step w strictly bound t links u are boolean found)
 
         boolean : (c : Bool) → are_decisive w links ≡ true → (strictly && not (list_all (λ u. is_boolean (value_under s A bound u)) all)) ≡ c
-            → inner_part s A (part_at (Chain t links) bound w strictly) (cond c None (find (λ u. decides_with w (value_under s A bound u)) all)) ≡ Some q
+            → inner_part (part_at (Chain t links) bound w strictly) (cond c None (find (λ u. decides_with w (value_under s A bound u)) all)) ≡ Some q
             → Steps (part_at (Chain t links) bound w strictly) q
         boolean true are at is = cc
         boolean false are at is = some (find (λ u. decides_with w (value_under s A bound u)) all) are at refl is
 
         decisive : (b : Bool) → are_decisive w links ≡ b
-            → cond b (inner_part s A (part_at (Chain t links) bound w strictly) (deciding_operand s A (part_at (Chain t links) bound w strictly) all)) None ≡ Some q
+            → cond b (inner_part (part_at (Chain t links) bound w strictly) (deciding_operand s A (part_at (Chain t links) bound w strictly) all)) None ≡ Some q
             → Steps (part_at (Chain t links) bound w strictly) q
         decisive true are is = boolean (strictly && not (list_all (λ u. is_boolean (value_under s A bound u)) all)) are refl is
         decisive false are is = cc
@@ -331,3 +330,13 @@ module _ (s : Spec) (A : State) where
     pub still_fails : (p q : Part) → Decides s A p q → fails s A p ≡ true → fails s A q ≡ true
     still_fails p q (itself stops) wrong = wrong
     still_fails p q (by_way_of r is rest) wrong = still_fails r q rest ((step p r is).down wrong)
+
+pub valued_of : SpecificationsAreRanked → ValuedByCases → TermWeightsFall → ProgramDeclares → (s : Spec) (A : State) → IsWellFormed s → AreValued s A
+valued_of ranked cases falls declares s A good =
+    let ranks = ranked s good in record {
+      rank = ranks.derived;
+      low = ranks.derived_low;
+      cases = λ e. cases (program_of s) ranks.derived A e ranks.derived_ranked;
+      falls = λ e. falls (program_of s) ranks.derived e ranks.derived_ranked;
+      declares = declares s;
+    }

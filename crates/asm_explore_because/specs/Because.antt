@@ -8,7 +8,7 @@
 --     part_text p           the text of the part, its value, the names that are bound there, and what
 --                           it reads
 --     IsBecause spec A t line      the line is of the part that decides why t isn't true
-use Rattle.std.specs.Prelude.{◌≡◌, ◌++◌, ℕ, Bool, true, cond, List, [], ◌∷◌, Option, Some, None, codes}
+use Rattle.std.specs.Prelude.{◌≡◌, ◌++◌, ℕ, Bool, true, false, cond, List, [], ◌∷◌, Option, Some, None, codes}
 use Rattle.std.specs.List.{filter_map, flat_map, list_any}
 use Rattle.std.specs.Str.{bytes_eq}
 use Rattle.asm_state.specs.declared.value.Value.{Value}
@@ -18,7 +18,6 @@ use Rattle.asm_syntax.specs.Tree as tree
 use Rattle.asm_check.specs.Numbers.{named}
 use Rattle.asm_check.specs.declared.checked.NameNumber.{NameNumber}
 use Rattle.asm_check.specs.declared.checked.NameNumber.TheVariants as number
-use Rattle.asm_meaning.specs.Program.{is_name}
 use Rattle.asm_run.specs.Trace.{value_text}
 use Rattle.asm_run.specs.Written.{names_in}
 use Rattle.asm_explore_because.specs.Parts.{Bound, Decides, Part, fails, is_bound, value_under, values_under, whole}
@@ -62,7 +61,7 @@ is_read it = false
 abbrev pub each_once : (before : List (List ℕ)) → List (List ℕ) → List (List ℕ)
 each_once before [] = []
 each_once before (text ∷ texts) =
-    cond (list_any (λ other. bytes_eq other text) before) (each_once before texts) (text ∷ each_once (text ∷ before) texts)
+    cond (list_any (λ other. bytes_eq other text) before) (each_once before texts) (text ∷ each_once (before ++ text ∷ []) texts)
 
 module _ (s : Spec) (A : State) where
   abbrev pub call_text : Bound → Name → Terms → List ℕ

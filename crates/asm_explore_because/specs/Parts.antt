@@ -92,6 +92,18 @@ abbrev pub operands : Links → List Term
 operands no_links = []
 operands (link_then o t links) = t ∷ operands links
 
+module _ (p : Part) where
+  -- the same is wanted of a term in it
+  abbrev pub inner_part : Option Term → Option Part
+  inner_part None = None
+  inner_part (Some t) = Some (record { term = t; bound = p.bound; wanted = p.wanted; strictly = p.strictly })
+
+  -- The same is wanted under one more name, which is bound to an element. It is enough against a
+  -- `forall` that the term isn't true; for an `exists` it has to be true.
+  abbrev pub element_part : (x : tree.Name) → Term → Option Value → Option Part
+  element_part x t None = None
+  element_part x t (Some v) = Some (record { term = t; bound = (x, v) ∷ p.bound; wanted = p.wanted; strictly = not p.wanted })
+
 module _ (s : Spec) (A : State) where
   abbrev pub value_under : Bound → Term → Value
   value_under bound t = value (program_of s) A (environment_of bound) (plain_term t)
@@ -104,12 +116,7 @@ module _ (s : Spec) (A : State) where
   fails p = fails_with p.wanted p.strictly (value_under p.bound p.term)
 
   module _ (p : Part) where
-    -- the same is wanted of a term in it
-    abbrev pub inner_part : Option Term → Option Part
-    inner_part None = None
-    inner_part (Some t) = Some (record { term = t; bound = p.bound; wanted = p.wanted; strictly = p.strictly })
-
-    -- and of the body of a derived function, in which only its parameters are bound
+    -- the body of a derived function, in which only its parameters are bound
     abbrev pub body_part : Terms → Option Meaning → Option Part
     body_part ts (Some (names.Derived xs t)) =
         Some (record { term = t; bound = parameters (map text_of xs) (values_under p.bound ts); wanted = p.wanted; strictly = p.strictly })
@@ -118,11 +125,6 @@ module _ (s : Spec) (A : State) where
     abbrev pub named_part : Terms → Option NameNumber → Option Part
     named_part ts (Some (number.Derived d)) = body_part ts (declared_with_number (derived_of s) d)
     named_part ts it = None
-
-    -- under one more name, which is bound to an element
-    abbrev pub element_part : (x : tree.Name) → Term → Option Value → Option Part
-    element_part x t None = None
-    element_part x t (Some v) = Some (record { term = t; bound = (x, v) ∷ p.bound; wanted = p.wanted; strictly = not p.wanted })
 
     abbrev pub decides_under : Bound → Term → Bool
     decides_under bound t = decides_with p.wanted (value_under bound t)
@@ -140,11 +142,11 @@ module _ (s : Spec) (A : State) where
     abbrev pub next_in : Term → Option Part
     next_in (Constant l) = None
     next_in (Named x ts) = cond (is_bound p.bound x.text) None (named_part ts (named s x.text))
-    next_in (Chain t links) = cond (are_decisive p.wanted links) (inner_part (deciding_operand (t ∷ operands links))) None
+    next_in (Chain t links) = cond (are_decisive p.wanted links) (inner_part p (deciding_operand (t ∷ operands links))) None
     next_in (Not t) = Some (record { term = t; bound = p.bound; wanted = not p.wanted; strictly = p.strictly })
     next_in (Negative t) = None
-    next_in (Exists x u t) = cond p.wanted None (element_part x.text t (deciding_element x.text u.text t))
-    next_in (Every x u t) = cond p.wanted (element_part x.text t (deciding_element x.text u.text t)) None
+    next_in (Exists x u t) = cond p.wanted None (element_part p x.text t (deciding_element x.text u.text t))
+    next_in (Every x u t) = cond p.wanted (element_part p x.text t (deciding_element x.text u.text t)) None
     next_in (Result x) = None
 
   abbrev pub next : Part → Option Part

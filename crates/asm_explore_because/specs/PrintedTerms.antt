@@ -5,12 +5,13 @@
 --     term_text t                 the term, with no parentheses but those that it needs
 --     arguments_text elements vs  the values of arguments in parentheses, if there are any
 use Rattle.std.specs.Prelude.{ℕ, ◌+◌, Bool, cond, List, [], ◌∷◌, ◌++◌, nat_lt, codes}
+use Rattle.std.specs.List.{flat_map}
 use Rattle.asm_state.specs.declared.operation.Op.{Op}
 use Rattle.asm_state.specs.declared.operation.Op.TheVariants.{Add, Subtract, Multiply, Divide, Remainder, Negate, Less, AtMost, Greater, AtLeast, Equal, Different, And, Or, Not as not_op}
 use Rattle.asm_state.specs.declared.value.Value.{Value}
 use Rattle.asm_syntax.specs.PlainTree.{literal_value}
 use Rattle.asm_syntax.specs.SourceTree.{Term, Constant, Named, Chain, Not, Negative, Exists, Every, Result, Terms, no_terms, term_then, Links, no_links, link_then}
-use Rattle.asm_run.specs.Trace.{value_text, values_text}
+use Rattle.asm_run.specs.Trace.{value_text}
 
 abbrev pub operation_text : Op → List ℕ
 operation_text Add = codes "+"
@@ -97,6 +98,9 @@ abbrev mutual
   links_text asked no_links = []
   links_text asked (link_then o t links) = codes " " ++ (operation_text o ++ (codes " " ++ (operand asked (strength t) (term_text t) ++ links_text asked links)))
 
+abbrev pub other_arguments : List (List ℕ) → List Value → List ℕ
+other_arguments elements vs = flat_map (λ v. codes ", " ++ value_text elements v) vs
+
 abbrev pub arguments_text : List (List ℕ) → List Value → List ℕ
 arguments_text elements [] = []
-arguments_text elements (v ∷ vs) = codes "(" ++ (values_text elements v vs ++ codes ")")
+arguments_text elements (v ∷ vs) = codes "(" ++ (value_text elements v ++ (other_arguments elements vs ++ codes ")"))

@@ -13,4 +13,5 @@ mod part;
 mod reads;
 mod scene;
 mod term_text;
+mod truths;
 mod value_under;

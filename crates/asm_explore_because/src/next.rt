@@ -1,18 +1,24 @@
 //! The part of a part that decides it.
-ghost use Rattle.std.specs.Prelude.{◌≡◌, ◌∷◌, not, Some, IfOk, OnOk, map};
+ghost use Rattle.std.specs.Prelude.{◌≡◌, IfOk, OnOk, map, option_map};
+ghost use Rattle.std.specs.List.{list_any};
+ghost use Rattle.asm_meaning.specs.Program.{is_name};
+ghost use Rattle.asm_syntax.specs.SourceTree as source;
+ghost use Rattle.asm_check.specs.Names.{text_of};
 ghost use Rattle.asm_resolve.specs.code.Scopes.{AreResolvedBodies};
 ghost use Rattle.asm_syntax.specs.code.Views.{name_of, term_of, terms_of};
 ghost use Rattle.asm_explore_because.specs.Parts as parts;
-ghost use Rattle.asm_explore_because.specs.code.CodedParts.{bound_of, part_of, part_of_some, spec_in, state_in};
+ghost use Rattle.asm_explore_because.specs.code.CodedParts.{bound_of, part_of, part_of_some, spec_in, state_in, term_at};
+ghost use Rattle.asm_explore_because.specs.code.CodedTerms.{links_in};
 
 use crate::bound_name::BoundName;
-use crate::chains::deciding_operand;
+use crate::chains::{are_decisive, deciding_operand};
 use crate::elements::{Quantified, element_part};
 use crate::part::Part;
 use crate::scene::Scene;
 use crate::value_under::values_under;
 use asm_check::NameNumber;
 use asm_resolve::bodies::Bodies;
+use asm_state::operation::Op;
 use asm_state::word::Word;
 use asm_syntax::name::Name;
 use asm_syntax::term::Term;
@@ -34,8 +40,7 @@ pub(crate) fn next<'e>(
             named_part(alloc, scene, known, part, name, arguments.as_slice())
         }
         Term::Chain { first, rest } => {
-            let operand = deciding_operand(alloc, scene, known, part, first, rest.as_slice())?;
-            inner_part(alloc, part, operand)
+            chain_part(alloc, scene, known, part, first, rest.as_slice())
         }
         Term::Not(inner) => Ok(Some(part_with(alloc, part, inner, !part.wanted)?)),
         Term::Exists { name, over, test } if !part.wanted => {
@@ -74,12 +79,32 @@ fn inner_part<'e>(
     part: &Part<'e>,
     term: Option<&'e Term>,
 ) -> Result<Option<Part<'e>>, AllocError>
-    ensures { IfOk result (λ it. part_of_some it ≡ parts.inner_part (part_of part.now) (option_map (λ t. term_of t.now) term)) }
+    ensures { IfOk result (λ it. part_of_some it ≡ parts.inner_part (part_of part.now) (option_map term_at term.entry)) }
 {
     match term {
         Some(term) => Ok(Some(part_with(alloc, part, term, part.wanted)?)),
         None => Ok(None),
     }
+}
+
+/// The operand that decides a chain.
+fn chain_part<'e>(
+    alloc: Global,
+    scene: &Scene<'e>,
+    known: &mut Bodies,
+    part: &Part<'e>,
+    first: &'e Term,
+    rest: &'e [(Op, Term)],
+) -> Result<Option<Part<'e>>, AllocError>
+    requires known { AreResolvedBodies (spec_in scene.now) known.old.terms.items }
+    ensures next { IfOk result (λ it. part_of_some it ≡ parts.next_in (spec_in scene.now) (state_in scene.now) (part_of part.now) (source.Chain (term_of first.now) (links_in rest.now))) }
+    ensures known { OnOk result (AreResolvedBodies (spec_in scene.now) known.new.terms.items) }
+{
+    if !are_decisive(part.wanted, rest) {
+        return Ok(None);
+    }
+    let operand = deciding_operand(alloc, scene, known, part, first, rest)?;
+    inner_part(alloc, part, operand)
 }
 
 /// The body of the derived function that a name stands for.
@@ -92,7 +117,7 @@ fn named_part<'e>(
     arguments: &'e [Term],
 ) -> Result<Option<Part<'e>>, AllocError>
     requires known { AreResolvedBodies (spec_in scene.now) known.old.terms.items }
-    ensures next { IfOk result (λ it. part_of_some it ≡ parts.next_in (spec_in scene.now) (state_in scene.now) (part_of part.now) (Named (name_of name.now) (terms_of (map term_of arguments.now)))) }
+    ensures next { IfOk result (λ it. part_of_some it ≡ parts.next_in (spec_in scene.now) (state_in scene.now) (part_of part.now) (source.Named (name_of name.now) (terms_of (map term_of arguments.now)))) }
     ensures known { OnOk result (AreResolvedBodies (spec_in scene.now) known.new.terms.items) }
 {
     if is_bound(part.bound.as_slice(), name) {
@@ -117,6 +142,13 @@ fn named_part<'e>(
 pub(crate) fn is_bound(bound: &[BoundName<'_>], name: &Name) -> bool
     ensures { result ≡ parts.is_bound (bound_of bound.now) name.now.text }
 {
+    has_name(bound, name)
+}
+
+/// The same, of the names of the code.
+fn has_name(bound: &[BoundName<'_>], name: &Name) -> bool
+    ensures { result ≡ list_any (λ inner. is_name inner.name.now.text name.now.text) bound.now }
+{
     bound
         .iter()
         .any(|inner| inner.name.text.is_same_text(&name.text))
@@ -128,7 +160,7 @@ fn parameters<'e>(
     names: &'e [Name],
     values: &[Word],
 ) -> Result<Vec<BoundName<'e>>, AllocError>
-    ensures { IfOk result (λ bound. bound_of bound.items ≡ parts.parameters (map text_of names.now) values.now) }
+    ensures { IfOk result (λ bound. bound_of bound.items ≡ parts.parameters (map text_of (map name_of names.now)) values.now) }
 {
     let mut bound = Vec::new(alloc);
     for i in 0..names.len() {

@@ -1,6 +1,7 @@
 //! The value of a term under bound names.
-ghost use Rattle.std.specs.Prelude.{◌≡◌, ◌++◌, [], length, IfOk, OnOk};
+ghost use Rattle.std.specs.Prelude.{◌≡◌, ◌++◌, map, IfOk, OnOk};
 ghost use Rattle.asm_check.specs.Shapes.{shape_of};
+ghost use Rattle.asm_eval.specs.code.Frames.{IsSoundFrame};
 ghost use Rattle.asm_resolve.specs.code.Scopes.{AreResolvedBodies};
 ghost use Rattle.asm_syntax.specs.code.Views.{term_of, terms_of};
 ghost use Rattle.asm_explore_because.specs.Parts as parts;
@@ -28,20 +29,22 @@ struct Positions<'e> {
 }
 
 /// The value of a term under bound names. The bodies of derived functions are kept.
-pub(crate) fn value_under<'e>(
+pub(crate) fn value_under(
     alloc: Global,
     scene: &Scene<'_>,
     known: &mut Bodies,
-    bound: &[BoundName<'e>],
+    bound: &[BoundName<'_>],
     term: &Term,
 ) -> Result<Word, AllocError>
     requires known { AreResolvedBodies (spec_in scene.now) known.old.terms.items }
     ensures value { IfOk result (λ v. v ≡ parts.value_under (spec_in scene.now) (state_in scene.now) (bound_of bound.now) (term_of term.now)) }
     ensures known { OnOk result (AreResolvedBodies (spec_in scene.now) known.new.terms.items) }
 {
+    let scope = Scope::Empty;
+    let frame = Frame::Empty;
     let outside = Positions {
-        scope: &Scope::Empty,
-        frame: &Frame::Empty,
+        scope: &scope,
+        frame: &frame,
     };
     value_within(alloc, scene, known, bound, &outside, term)
 }
@@ -51,11 +54,12 @@ fn value_within<'e>(
     alloc: Global,
     scene: &Scene<'_>,
     known: &mut Bodies,
-    bound: &[BoundName<'e>],
-    outside: &Positions<'e>,
+    bound: &'e [BoundName<'e>],
+    outside: &'e Positions<'e>,
     term: &Term,
 ) -> Result<Word, AllocError>
     requires known { AreResolvedBodies (spec_in scene.now) known.old.terms.items }
+    requires framed { IsSoundFrame (shape_of (spec_in scene.now)) outside.now.frame.now }
     ensures value { (outer : Bound) → AreNamed (shape_of (spec_in scene.now)) outside.now.scope.now outside.now.frame.now outer →
         IfOk result (λ v. v ≡ parts.value_under (spec_in scene.now) (state_in scene.now) (bound_of bound.now ++ outer) (term_of term.now)) }
     ensures known { OnOk result (AreResolvedBodies (spec_in scene.now) known.new.terms.items) }
@@ -87,6 +91,7 @@ fn value_at(
     term: &Term,
 ) -> Result<Word, AllocError>
     requires known { AreResolvedBodies (spec_in scene.now) known.old.terms.items }
+    requires framed { IsSoundFrame (shape_of (spec_in scene.now)) positions.now.frame.now }
     ensures value { (bound : Bound) → AreNamed (shape_of (spec_in scene.now)) positions.now.scope.now positions.now.frame.now bound →
         IfOk result (λ v. v ≡ parts.value_under (spec_in scene.now) (state_in scene.now) bound (term_of term.now)) }
     ensures known { OnOk result (AreResolvedBodies (spec_in scene.now) known.new.terms.items) }
@@ -100,11 +105,11 @@ fn value_at(
 }
 
 /// The values of terms.
-pub(crate) fn values_under<'e>(
+pub(crate) fn values_under(
     alloc: Global,
     scene: &Scene<'_>,
     known: &mut Bodies,
-    bound: &[BoundName<'e>],
+    bound: &[BoundName<'_>],
     terms: &[Term],
 ) -> Result<Vec<Word>, AllocError>
     requires known { AreResolvedBodies (spec_in scene.now) known.old.terms.items }
