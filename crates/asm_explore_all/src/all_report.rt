@@ -18,7 +18,7 @@ use crate::graph_file::{GraphFile, draw};
 use crate::quiet_file::write_script;
 use asm_explore::{ExplorationResult, Finding, Progress, Watch};
 use asm_explore_report::facts::behind;
-use asm_explore_report::fault_told::FaultWords;
+use asm_explore_report::told::Told;
 use asm_explore_report::fault_words::{Subject, UNWRITTEN, bad_words, first_words};
 use asm_explore_report::laws::all_asked_law;
 use asm_explore_report::printed::printed;
@@ -49,7 +49,7 @@ fn words_of<R: Threads + Sync>(
     text: &[u8],
     subject: &Subject<'_>,
     finding: &Finding,
-) -> Result<FaultWords, Unshown>
+) -> Result<Told, Unshown>
     ensures { (links : List (Op × Code)) → IsJoined links subject.now.always.now → IsAccepted text.now (spec_of subject.now.checked.now.spec) →
         IfOk result (λ told. WordsTell (spec_of subject.now.checked.now.spec) (terms_in links) subject.now.turns finding.now told.words.items (lines_of told.because.items)) }
 {
@@ -58,13 +58,13 @@ fn words_of<R: Threads + Sync>(
         Finding::WrongFirst => first_words(alloc, subject),
         Finding::Unwritten(_) => {
             let words = Vec::from_slice(alloc, UNWRITTEN)?;
-            Ok(FaultWords::alone(alloc, words))
+            Ok(Told::alone(alloc, words))
         }
         Finding::Closed
         | Finding::SafeTo(_)
         | Finding::TooManyStates(_)
         | Finding::TooManyOutcomes { .. }
-        | Finding::NoMemory(_) => Ok(FaultWords::alone(alloc, Vec::new(alloc))),
+        | Finding::NoMemory(_) => Ok(Told::alone(alloc, Vec::new(alloc))),
     }
 }
 
@@ -89,7 +89,7 @@ fn printed_of<R: Threads + Sync>(
         always: &asked.question.always,
         turns: asked.question.turns,
     };
-    let FaultWords { words, because } = words_of(rt, alloc, text, &subject, finding)?;
+    let Told { words, because } = words_of(rt, alloc, text, &subject, finding)?;
     let first = finding_line(alloc, finding, words.as_slice())?;
     let facts = facts(alloc, text, asked, conditions, settings, answered, drawing)?;
     let lines = behind(because, facts)?;

@@ -13,7 +13,7 @@ use crate::random_asked::{CheckedRandomQuestion, ask_random};
 use crate::random_facts::{random_facts, shown_run};
 use asm_explore::Watch;
 use asm_explore_report::facts::behind;
-use asm_explore_report::fault_told::FaultWords;
+use asm_explore_report::told::Told;
 use asm_explore_report::fault_words::{Subject, UNWRITTEN, bad_words, first_words};
 use asm_explore_report::first_line::{of_fault, of_first};
 use asm_explore_report::laws::all_asked_law;
@@ -43,17 +43,17 @@ fn words_of<R: Threads + Sync>(
     text: &[u8],
     subject: &Subject<'_>,
     finding: &RandomFinding,
-) -> Result<FaultWords, Unshown>
+) -> Result<Told, Unshown>
     ensures { (links : List (Op × Code)) → IsJoined links subject.now.always.now → IsAccepted text.now (spec_of subject.now.checked.now.spec) →
         IfOk result (λ told. RandomTells (spec_of subject.now.checked.now.spec) (terms_in links) subject.now.turns finding.now told.words.items (lines_of told.because.items)) }
 {
     match finding {
-        RandomFinding::Nothing => Ok(FaultWords::alone(alloc, Vec::new(alloc))),
+        RandomFinding::Nothing => Ok(Told::alone(alloc, Vec::new(alloc))),
         RandomFinding::Bad { bad, .. } => bad_words(rt, alloc, text, subject, bad),
         RandomFinding::WrongFirst => first_words(alloc, subject),
         RandomFinding::Unwritten(_) => {
             let words = Vec::from_slice(alloc, UNWRITTEN)?;
-            Ok(FaultWords::alone(alloc, words))
+            Ok(Told::alone(alloc, words))
         }
     }
 }
@@ -102,7 +102,7 @@ fn printed_of<R: Threads + Sync>(
         turns: asked.question.turns,
     };
     let steps = asked.question.steps;
-    let FaultWords { words, because } = words_of(rt, alloc, text, &subject, finding)?;
+    let Told { words, because } = words_of(rt, alloc, text, &subject, finding)?;
     let first = line_of(alloc, answer.runs, steps, finding, words.as_slice())?;
     let facts = random_facts(alloc, conditions, settings, answer)?;
     let lines = behind(because, facts)?;

@@ -11,10 +11,11 @@ ghost use Rattle.asm_explore_texts.specs.code.CodedConditions.{IsJoined, terms_i
 ghost use Rattle.asm_explore_report.specs.Comments.{lines_of};
 ghost use Rattle.asm_explore_report.specs.FaultWords.{IsBroken, broken_words, value_in};
 
-use crate::fault_told::FaultWords;
+use crate::told::Told;
 use asm_check::Checked;
 use asm_eval::View;
 use asm_explore_because::because::because;
+use asm_explore_because::laws::deciding_laws;
 use asm_explore_texts::conditions::parts;
 use asm_run::locations::push_value;
 use asm_state::state::State;
@@ -64,7 +65,7 @@ fn told_of(
     number: usize,
     condition: &Term,
     line: Vec<u8>,
-) -> Result<FaultWords, AllocError>
+) -> Result<Told, AllocError>
     requires { length state.now ≡ count_of (shape_of (spec_of checked.now.spec)) }
     ensures { let s = spec_of checked.now.spec in
         IfOk result (λ told. (told.words.items ≡ broken_words s number (value_in s (term_of condition.now) (state_of (shape_of s) state.now))) × (lines_of told.because.items ≡ line.items ∷ [])) }
@@ -73,7 +74,7 @@ fn told_of(
     let words = words_for(alloc, checked, number, value)?;
     let mut because = Vec::new(alloc);
     because.push(line)?;
-    Ok(FaultWords { words, because })
+    Ok(Told { words, because })
 }
 
 /// The first of the joined conditions that isn't true in a state, in words: its number, from 1, and
@@ -83,13 +84,14 @@ pub(crate) fn broken_in(
     checked: &Checked,
     always: &Option<Term>,
     state: &State,
-) -> Result<Option<FaultWords>, AllocError>
+) -> Result<Option<Told>, AllocError>
     requires { length state.now ≡ count_of (shape_of (spec_of checked.now.spec)) }
     ensures found { (links : List (Op × Code)) → IsJoined links always.now →
         IfOk result (λ found. IfSome found (λ told. IsBroken (spec_of checked.now.spec) (terms_in links) (state_of (shape_of (spec_of checked.now.spec)) state.now) told.words.items (lines_of told.because.items))) }
     ensures all_true { let s = spec_of checked.now.spec in (links : List (Op × Code)) → IsJoined links always.now →
         IfOk result (λ found. IfNone found (list_all (λ t. is_true (value_in s t (state_of (shape_of s) state.now))) (terms_in links) ≡ true)) }
 {
+    deciding_laws();
     let links = parts(always);
     for k in 0..links.len() {
         let condition = &links[k].1;

@@ -23,8 +23,8 @@ ghost use Rattle.asm_explore_report.specs.FaultWords.{BadTells, IsBroken};
 
 use crate::broken_condition::broken_in;
 use crate::confirm_run::end_words;
-use crate::fault_told::FaultWords;
 use crate::shown_run::run_of;
+use crate::told::Told;
 use asm_check::Checked;
 use asm_explore::{BadRun, Fault as StepFault};
 use asm_explore_words::fault::Unshown;
@@ -50,7 +50,7 @@ pub struct Subject<'s> {
 }
 
 /// The words for a state in which a condition isn't true, with a line that says why.
-fn words_in(alloc: Global, subject: &Subject<'_>, state: &State) -> Result<FaultWords, Unshown>
+fn words_in(alloc: Global, subject: &Subject<'_>, state: &State) -> Result<Told, Unshown>
     requires { length state.now ≡ count_of (shape_of (spec_of subject.now.checked.now.spec)) }
     ensures { (links : List (Op × Code)) → IsJoined links subject.now.always.now →
         IfOk result (λ told. IsBroken (spec_of subject.now.checked.now.spec) (terms_in links) (state_of (shape_of (spec_of subject.now.checked.now.spec)) state.now) told.words.items (lines_of told.because.items)) }
@@ -108,7 +108,7 @@ fn last_state(alloc: Global, subject: &Subject<'_>, bad: &BadRun) -> Result<Stat
 }
 
 /// The words for a first state in which a condition isn't true, with a line that says why.
-pub fn first_words(alloc: Global, subject: &Subject<'_>) -> Result<FaultWords, Unshown>
+pub fn first_words(alloc: Global, subject: &Subject<'_>) -> Result<Told, Unshown>
     ensures { (links : List (Op × Code)) → IsJoined links subject.now.always.now →
         IfOk result (λ told. IsBroken (spec_of subject.now.checked.now.spec) (terms_in links) (specification_of (spec_of subject.now.checked.now.spec)).initial told.words.items (lines_of told.because.items)) }
 {
@@ -125,20 +125,20 @@ pub fn bad_words<R: Threads + Sync>(
     text: &[u8],
     subject: &Subject<'_>,
     bad: &BadRun,
-) -> Result<FaultWords, Unshown>
+) -> Result<Told, Unshown>
     ensures { (links : List (Op × Code)) → IsJoined links subject.now.always.now → IsAccepted text.now (spec_of subject.now.checked.now.spec) →
         IfOk result (λ told. BadTells (spec_of subject.now.checked.now.spec) (terms_in links) subject.now.turns bad.now told.words.items (lines_of told.because.items)) }
 {
     let end = end_words(rt, alloc, text, subject.checked, subject.turns, bad)?;
     match bad.fault {
-        StepFault::Exhausted | StepFault::Inconsistent => Ok(FaultWords::alone(alloc, end)),
+        StepFault::Exhausted | StepFault::Inconsistent => Ok(Told::alone(alloc, end)),
         StepFault::Wrong => {
             let last = last_state(alloc, subject, bad)?;
             words_in(alloc, subject, &last)
         }
         StepFault::Deadlock => {
             let words = Vec::from_slice(alloc, b"deadlock")?;
-            Ok(FaultWords::alone(alloc, words))
+            Ok(Told::alone(alloc, words))
         }
     }
 }

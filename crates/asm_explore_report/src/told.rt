@@ -6,19 +6,19 @@ use std::alloc::Global;
 
 /// What is said of a fault that is found.
 #[derive(Drop)]
-pub struct FaultWords {
+pub struct Told {
     /// What it is: words for the first line.
     pub words: Vec<u8>,
     /// If a condition isn't true, why: a line behind the first.
     pub because: Vec<Vec<u8>>,
 }
 
-impl FaultWords {
+impl Told {
     /// These words, with no line behind them.
-    pub fn alone(alloc: Global, words: Vec<u8>) -> FaultWords
+    pub fn alone(alloc: Global, words: Vec<u8>) -> Told
         ensures { (result.words.items ≡ words.items) × (lines_of result.because.items ≡ []) }
     {
-        FaultWords {
+        Told {
             words,
             because: Vec::new(alloc),
         }
