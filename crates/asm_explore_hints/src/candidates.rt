@@ -1,4 +1,10 @@
 //! Which words could stand at a place.
+ghost use Rattle.std.specs.Prelude.{◌≡◌, ◌⊎◌, Ok, Err, IfOk, IsTrue};
+ghost use Rattle.asm_syntax.specs.declared.input_error.InputError.TheVariants.{Named};
+ghost use Rattle.asm_reader.specs.declared.error.ReadError.TheVariants.{UnexpectedEnd};
+ghost use Rattle.asm_explore_hints.specs.Beginnings.{IsBeginning, goes_on};
+ghost use Rattle.asm_explore_hints.specs.code.Places.{beginning};
+
 use crate::place::Place;
 use asm_reader::{ReadError, read, read_term};
 use asm_syntax::InputError;
@@ -98,7 +104,9 @@ fn words_at(alloc: Global, place: &Place<'_>) -> Result<Vec<&'static str>, Alloc
 }
 
 /// Whether the text before the place could go on with this word.
-pub(crate) fn can_follow(alloc: Global, place: &Place<'_>, word: &str) -> Result<bool, AllocError> {
+pub(crate) fn can_follow(alloc: Global, place: &Place<'_>, word: &str) -> Result<bool, AllocError>
+    ensures { IfOk result (λ can. IsTrue can → IsBeginning place.now.is_condition (goes_on (beginning place.now.text.now place.now.rest.now) word.now)) }
+{
     let mut text = Vec::from_slice(alloc, place.beginning())?;
     text.push(b'\n')?;
     text.extend_from_slice(word.as_bytes())?;
@@ -109,7 +117,9 @@ pub(crate) fn can_follow(alloc: Global, place: &Place<'_>, word: &str) -> Result
 }
 
 /// Whether a text is read, or ends too early.
-fn is_begun<T: Drop>(read: Result<T, InputError<ReadError>>) -> Result<bool, AllocError> {
+fn is_begun<T: Drop>(read: Result<T, InputError<ReadError>>) -> Result<bool, AllocError>
+    ensures { IfOk result (λ is. IsTrue is → ((x : T) × (read ≡ Ok x)) ⊎ (read ≡ Err (Named UnexpectedEnd))) }
+{
     match read {
         Ok(_) => Ok(true),
         Err(InputError::Memory) => Err(AllocError),

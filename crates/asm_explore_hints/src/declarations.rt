@@ -1,4 +1,11 @@
 //! What a specification declares.
+ghost use Rattle.std.specs.Prelude.{◌≡◌, ◌++◌, ◌∷◌, [], List, flat_map, length, map, IfOk, OnOk};
+ghost use Rattle.asm_syntax.specs.SourceTree as source;
+ghost use Rattle.asm_check.specs.Names as names;
+ghost use Rattle.asm_syntax.specs.code.Views.{item_of, name_of, spec_of};
+ghost use Rattle.asm_explore_hints.specs.code.DeclaredNames.{meaning_of, seen_in, seen_of};
+ghost use Rattle.asm_explore_hints.specs.declared.declarations.Meaning.TheVariants as meanings;
+
 use crate::sentence::Said;
 use asm_state::function::FunctionKind;
 use asm_syntax::name::Name;
@@ -54,7 +61,9 @@ impl Meaning {
 pub(crate) fn declarations<'s>(
     alloc: Global,
     spec: &'s Spec,
-) -> Result<Vec<Declaration<'s>>, AllocError> {
+) -> Result<Vec<Declaration<'s>>, AllocError>
+    ensures { IfOk result (λ all. map seen_of all.items ≡ flat_map seen_in (spec_of spec.now).items) }
+{
     let mut all = Vec::new(alloc);
     for item in &spec.items {
         push_item(&mut all, item)?;
@@ -63,7 +72,9 @@ pub(crate) fn declarations<'s>(
 }
 
 /// Adds what an item declares.
-fn push_item<'s>(all: &mut Vec<Declaration<'s>>, item: &'s Item) -> Said {
+fn push_item<'s>(all: &mut Vec<Declaration<'s>>, item: &'s Item) -> Said
+    ensures { OnOk result (map seen_of all.new.items ≡ map seen_of all.old.items ++ seen_in (item_of item.now)) }
+{
     match item {
         Item::Uses(_) | Item::Init(_) => Ok(()),
         Item::Enum { name, elements } => {
@@ -99,7 +110,9 @@ fn push_item<'s>(all: &mut Vec<Declaration<'s>>, item: &'s Item) -> Said {
 }
 
 /// A function of this kind, with so many parameters.
-fn function_of(kind: FunctionKind, count: usize) -> Meaning {
+fn function_of(kind: FunctionKind, count: usize) -> Meaning
+    ensures { (domain : List source.Name) → length domain ≡ count → result ≡ meaning_of (names.function_of kind domain) }
+{
     match kind {
         FunctionKind::Controlled => Meaning::Controlled(count),
         FunctionKind::Static => Meaning::Static(count),
@@ -107,7 +120,9 @@ fn function_of(kind: FunctionKind, count: usize) -> Meaning {
 }
 
 /// Adds a declaration that has no codomain.
-fn push_plain<'s>(all: &mut Vec<Declaration<'s>>, name: &'s Name, meaning: Meaning) -> Said {
+fn push_plain<'s>(all: &mut Vec<Declaration<'s>>, name: &'s Name, meaning: Meaning) -> Said
+    ensures { OnOk result (map seen_of all.new.items ≡ map seen_of all.old.items ++ (name_of name.now, meaning) ∷ []) }
+{
     all.push(Declaration {
         name,
         meaning,
@@ -117,7 +132,9 @@ fn push_plain<'s>(all: &mut Vec<Declaration<'s>>, name: &'s Name, meaning: Meani
 }
 
 /// Adds the elements of an enumeration.
-fn push_elements<'s>(all: &mut Vec<Declaration<'s>>, elements: &'s [Name]) -> Said {
+fn push_elements<'s>(all: &mut Vec<Declaration<'s>>, elements: &'s [Name]) -> Said
+    ensures { OnOk result (map seen_of all.new.items ≡ map seen_of all.old.items ++ map (λ y. (name_of y, meanings.Element)) elements.now) }
+{
     for name in elements {
         push_plain(all, name, Meaning::Element)?;
     }

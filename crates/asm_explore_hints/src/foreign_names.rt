@@ -118,7 +118,7 @@ pub(crate) fn push_declaration(out: &mut String, role: Role, name: &str) -> Said
     match role {
         Role::Term | Role::Target => write!(
             out,
-            "no name that could stand here is nearly this: declare it, as in `function controlled {name} initially 0`"
+            "no name that could stand here is nearly this: declare it, as in `function controlled {name} initially 0`, or bind it, as by `let` or `exists`"
         ),
         Role::Rule | Role::Answering => write!(
             out,

@@ -16,16 +16,21 @@ use asm_syntax::spec::Spec;
 use asm_syntax::{InputError, LexError, tokens};
 use std::alloc::{AllocError, Global};
 
-/// A sentence on what would cure a text that is refused, where the specification has this text; or
-/// none, if there is nothing to be said.
+/// A sentence on what would cure a text that is refused, or none, if there is nothing to be said. If
+/// it is a condition's, names are looked for in the text of the specification.
 pub fn hint(
     alloc: Global,
-    specification: &[u8],
+    specification: Option<&[u8]>,
     refused: &RefusedText<'_>,
 ) -> Result<String, AllocError> {
     let mut out = String::new(alloc);
     let is_condition = is_condition(refused.source);
     let text = refused.text.as_slice();
+    let specification = if is_condition {
+        specification.unwrap_or(&[])
+    } else {
+        text
+    };
     match refused.error {
         TextError::Read(error) => push_of_reading(alloc, &mut out, text, error, is_condition)?,
         TextError::Check(error) => {

@@ -19,3 +19,4 @@ mod token_habits;
 mod unexpected;
 mod uses;
 mod word_habits;
+pub mod words;

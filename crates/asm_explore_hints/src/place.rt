@@ -1,4 +1,7 @@
 //! A place among the tokens of a text.
+ghost use Rattle.std.specs.Prelude.{◌≡◌};
+ghost use Rattle.asm_explore_hints.specs.code.Places.{beginning};
+
 use asm_syntax::{Keyword, Kind, Symbol, Token};
 
 /// The place at which a text is refused.
@@ -32,7 +35,9 @@ impl<'t> Place<'t> {
     }
 
     /// The text before the place.
-    pub(crate) fn beginning(&self) -> &'t [u8] {
+    pub(crate) fn beginning(&self) -> &'t [u8]
+        ensures { result.now ≡ beginning self.now.text.now self.now.rest.now }
+    {
         match self.rest {
             [token, ..] => self.text.split_at(token.start.min(self.text.len())).0,
             [] => self.text,

@@ -111,6 +111,7 @@ fn push_open(alloc: Global, out: &mut String, place: &Place<'_>) -> Said {
             let line = Position::of(place.text, token.start).line;
             write!(out, ": the `{word}` of line {line} is open: ")
         }
+        [] if place.rest.is_empty() => out.push_str(": what is missing is "),
         [] => out.push_str(", only "),
     }
 }
