@@ -1,7 +1,7 @@
 -- Free. Declarations that are gathered one after another.
 --     one_more         one element more of a list
 --     with_elements    what an enumeration declares
-use Rattle.std.proofs.Common.{◌≡◌, ℕ, suc, ◌+◌, ◌<◌, List, [], ◌∷◌, ◌++◌, drop, length, map, refl, ap, arith, subst, sym, ◌∙◌}
+use Rattle.std.proofs.Common.{◌≡◌, ℕ, suc, ◌+◌, ◌<◌, List, [], ◌∷◌, ◌++◌, drop, length, map, ap, arith, subst, sym, ◌∙◌}
 use Rattle.std.specs.Prelude.{slice_index_or}
 use Rattle.std.proofs.Math.Seq.{drop-cons}
 use Rattle.std.proofs.lemmas.List.{append_assoc}
@@ -32,7 +32,7 @@ pub with_elements : (all plain both : List Declaration) (x : Name) (elements : L
     → map seen_of both ≡ map seen_of all ++ ((name_of x, Enumeration) ∷ map seen (map (λ y. declares y (names.Element 0)) (map name_of elements)))
 with_elements all plain both x elements first more =
     let plain_elements : map seen (map (λ y. declares y (names.Element 0)) (map name_of elements)) ≡ map (λ y. (name_of y, Element)) elements =
-        ap (map seen) (map-map (λ y. declares y (names.Element 0)) name_of elements) ∙ map-map seen (λ y. declares (name_of y) (names.Element 0)) elements in
+    ap (map seen) (map-map (λ y. declares y (names.Element 0)) name_of elements) ∙ map-map seen (λ y. declares (name_of y) (names.Element 0)) elements in
     more
     ∙ ap (λ front. front ++ map (λ y. (name_of y, Element)) elements) first
     ∙ append_assoc (map seen_of all) ((name_of x, Enumeration) ∷ []) (map (λ y. (name_of y, Element)) elements)

@@ -3,7 +3,7 @@ use crate::declarations::{Declaration, Meaning};
 use crate::foreign_names::{cure_of_foreign, cure_of_other_kind, push_declaration, wanted};
 use crate::known_names::{KnownNames, bound_name, nearest_bound};
 use crate::near::is_same_in_lower_case;
-use crate::sentence::{Said, push_count, shown};
+use crate::sentence::{push_count, shown};
 use crate::uses::Role;
 use asm_explore_texts::position::Position;
 use asm_syntax::name::Name;
@@ -28,7 +28,7 @@ pub(crate) struct BadName<'a, 's> {
 
 impl BadName<'_, '_> {
     /// Says what cures a name that nothing has which could stand here.
-    pub(crate) fn push_unknown(&self, out: &mut String) -> Said {
+    pub(crate) fn push_unknown(&self, out: &mut String) -> Result<(), AllocError> {
         if let Some(cure) = cure_of_foreign(self.role, self.name) {
             return out.push_str(cure);
         }
@@ -68,7 +68,11 @@ impl BadName<'_, '_> {
     }
 
     /// Says what is declared, and that something else stands here.
-    fn push_other_kind(&self, out: &mut String, declared: Declaration<'_>) -> Said {
+    fn push_other_kind(
+        &self,
+        out: &mut String,
+        declared: Declaration<'_>,
+    ) -> Result<(), AllocError> {
         self.known.push_declared(out, declared)?;
         let wanted = wanted(self.role);
         write!(out, ": here stands {wanted}")?;
@@ -76,7 +80,7 @@ impl BadName<'_, '_> {
     }
 
     /// Says where the name is bound, if it isn't bound here, and how it is declared.
-    fn push_elsewhere(&self, out: &mut String) -> Said {
+    fn push_elsewhere(&self, out: &mut String) -> Result<(), AllocError> {
         let name = shown(self.name);
         if let Some(at) = self.elsewhere {
             let line = Position::of(self.text, at).line;
@@ -89,7 +93,7 @@ impl BadName<'_, '_> {
     }
 
     /// Says how many arguments the name takes, and how many it has.
-    pub(crate) fn push_arguments(&self, out: &mut String) -> Said {
+    pub(crate) fn push_arguments(&self, out: &mut String) -> Result<(), AllocError> {
         let takes = match bound_name(self.bound, self.name) {
             Some(bound) => {
                 self.push_bound(out, bound)?;
@@ -114,7 +118,7 @@ impl BadName<'_, '_> {
     }
 
     /// Says where an arrow may be missing, if the name has no arguments here.
-    fn push_arrow(&self, out: &mut String) -> Said {
+    fn push_arrow(&self, out: &mut String) -> Result<(), AllocError> {
         let is_bound = bound_name(self.bound, self.name).is_some();
         match self.known.declared(self.name) {
             Some(declared) if !is_bound && self.count == 0 && !declared.has_codomain => {
@@ -127,7 +131,7 @@ impl BadName<'_, '_> {
     }
 
     /// Says why the name can't be assigned to.
-    pub(crate) fn push_not_controlled(&self, out: &mut String) -> Said {
+    pub(crate) fn push_not_controlled(&self, out: &mut String) -> Result<(), AllocError> {
         if let Some(bound) = bound_name(self.bound, self.name) {
             self.push_bound(out, bound)?;
             return out.push_str(
@@ -148,7 +152,7 @@ impl BadName<'_, '_> {
     }
 
     /// Says where the name is bound.
-    fn push_bound(&self, out: &mut String, bound: &Name) -> Said {
+    fn push_bound(&self, out: &mut String, bound: &Name) -> Result<(), AllocError> {
         let name = shown(bound.text.as_bytes());
         let line = Position::of(self.text, bound.at).line;
         write!(out, "`{name}` is bound in line {line}")

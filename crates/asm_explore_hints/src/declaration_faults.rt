@@ -1,13 +1,19 @@
 //! What cures a declaration or an `init` with a fault.
 use crate::declarations::{Declaration, Meaning};
 use crate::known_names::KnownNames;
-use crate::sentence::{Said, push_count, shown};
+use crate::sentence::{push_count, shown};
 use crate::uses::Role;
 use asm_syntax::name::Name;
 use asm_syntax::spec::{Item, Spec};
+use std::alloc::AllocError;
 
 /// Says where the name was declared before that is declared at an offset.
-pub(crate) fn push_twice(out: &mut String, known: &KnownNames<'_>, name: &[u8], at: usize) -> Said {
+pub(crate) fn push_twice(
+    out: &mut String,
+    known: &KnownNames<'_>,
+    name: &[u8],
+    at: usize,
+) -> Result<(), AllocError> {
     let again = known
         .all()
         .iter()
@@ -28,7 +34,7 @@ pub(crate) fn push_init(
     spec: &Spec,
     name: &[u8],
     at: usize,
-) -> Said {
+) -> Result<(), AllocError> {
     let Some(first) = first_init(spec) else {
         return push_missing_init(out, known);
     };
@@ -49,7 +55,7 @@ pub(crate) fn push_init(
 }
 
 /// Says what an `init` could name, where there is none.
-fn push_missing_init(out: &mut String, known: &KnownNames<'_>) -> Said {
+fn push_missing_init(out: &mut String, known: &KnownNames<'_>) -> Result<(), AllocError> {
     let mains = known
         .all()
         .iter()
@@ -66,7 +72,11 @@ fn push_missing_init(out: &mut String, known: &KnownNames<'_>) -> Said {
 }
 
 /// Says why what is declared so can't be the main rule.
-fn push_no_main(out: &mut String, known: &KnownNames<'_>, declared: Declaration<'_>) -> Said {
+fn push_no_main(
+    out: &mut String,
+    known: &KnownNames<'_>,
+    declared: Declaration<'_>,
+) -> Result<(), AllocError> {
     known.push_declared(out, declared)?;
     match declared.meaning {
         Meaning::Rule(count) => {
@@ -78,7 +88,11 @@ fn push_no_main(out: &mut String, known: &KnownNames<'_>, declared: Declaration<
 }
 
 /// Says which rule may be meant by a name that is none.
-fn push_unknown_main(out: &mut String, known: &KnownNames<'_>, name: &[u8]) -> Said {
+fn push_unknown_main(
+    out: &mut String,
+    known: &KnownNames<'_>,
+    name: &[u8],
+) -> Result<(), AllocError> {
     match known.nearest(name, Role::Rule) {
         Some(near) => {
             known.push_declared(out, near)?;

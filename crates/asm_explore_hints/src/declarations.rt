@@ -6,7 +6,6 @@ ghost use Rattle.asm_syntax.specs.code.Views.{item_of, name_of, spec_of};
 ghost use Rattle.asm_explore_hints.specs.code.DeclaredNames.{meaning_of, seen_in, seen_of};
 ghost use Rattle.asm_explore_hints.specs.declared.declarations.Meaning.TheVariants as meanings;
 
-use crate::sentence::Said;
 use asm_state::function::FunctionKind;
 use asm_syntax::name::Name;
 use asm_syntax::spec::{Item, Spec};
@@ -72,7 +71,7 @@ pub(crate) fn declarations<'s>(
 }
 
 /// Adds what an item declares.
-fn push_item<'s>(all: &mut Vec<Declaration<'s>>, item: &'s Item) -> Said
+fn push_item<'s>(all: &mut Vec<Declaration<'s>>, item: &'s Item) -> Result<(), AllocError>
     ensures { OnOk result (map seen_of all.new.items ≡ map seen_of all.old.items ++ seen_in (item_of item.now)) }
 {
     match item {
@@ -120,7 +119,11 @@ fn function_of(kind: FunctionKind, count: usize) -> Meaning
 }
 
 /// Adds a declaration that has no codomain.
-fn push_plain<'s>(all: &mut Vec<Declaration<'s>>, name: &'s Name, meaning: Meaning) -> Said
+fn push_plain<'s>(
+    all: &mut Vec<Declaration<'s>>,
+    name: &'s Name,
+    meaning: Meaning,
+) -> Result<(), AllocError>
     ensures { OnOk result (map seen_of all.new.items ≡ map seen_of all.old.items ++ (name_of name.now, meaning) ∷ []) }
 {
     all.push(Declaration {
@@ -132,7 +135,7 @@ fn push_plain<'s>(all: &mut Vec<Declaration<'s>>, name: &'s Name, meaning: Meani
 }
 
 /// Adds the elements of an enumeration.
-fn push_elements<'s>(all: &mut Vec<Declaration<'s>>, elements: &'s [Name]) -> Said
+fn push_elements<'s>(all: &mut Vec<Declaration<'s>>, elements: &'s [Name]) -> Result<(), AllocError>
     ensures { OnOk result (map seen_of all.new.items ≡ map seen_of all.old.items ++ map (λ y. (name_of y, meanings.Element)) elements.now) }
 {
     for name in elements {

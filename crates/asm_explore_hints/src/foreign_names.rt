@@ -1,8 +1,8 @@
 //! Names that habit takes for something else, and how names are declared.
 use crate::declarations::Meaning;
 use crate::near::is_same_in_lower_case;
-use crate::sentence::Said;
 use crate::uses::Role;
+use std::alloc::AllocError;
 
 const CODOMAIN: &str =
     "this is a codomain, which stands behind `->`, as in `function controlled x : -> NUMBER`";
@@ -114,7 +114,7 @@ pub(crate) fn cure_of_other_kind(role: Role, meaning: Meaning) -> &'static str {
 }
 
 /// Says how a name is declared that is to stand in this role.
-pub(crate) fn push_declaration(out: &mut String, role: Role, name: &str) -> Said {
+pub(crate) fn push_declaration(out: &mut String, role: Role, name: &str) -> Result<(), AllocError> {
     match role {
         Role::Term | Role::Target => write!(
             out,

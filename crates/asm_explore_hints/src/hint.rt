@@ -5,7 +5,6 @@ use crate::bound_names::bound_elsewhere;
 use crate::declaration_faults::{push_init, push_twice};
 use crate::known_names::KnownNames;
 use crate::place::Place;
-use crate::sentence::Said;
 use crate::unexpected::push_unexpected;
 use crate::uses::{Search, Use};
 use asm_check::{CheckError, FaultKind};
@@ -56,7 +55,7 @@ fn push_of_reading(
     text: &[u8],
     error: ReadError,
     is_condition: bool,
-) -> Said {
+) -> Result<(), AllocError> {
     match error {
         ReadError::Lex(error) => out.push_str(cure_of_bytes(text, error)),
         ReadError::Unexpected { at } => push_at(alloc, out, text, at, is_condition),
@@ -78,7 +77,13 @@ fn cure_of_bytes(text: &[u8], error: LexError) -> &'static str {
 }
 
 /// Says what cures the token at an offset, or the end of the text.
-fn push_at(alloc: Global, out: &mut String, text: &[u8], at: usize, is_condition: bool) -> Said {
+fn push_at(
+    alloc: Global,
+    out: &mut String,
+    text: &[u8],
+    at: usize,
+    is_condition: bool,
+) -> Result<(), AllocError> {
     match tokens(alloc, text) {
         Ok(tokens) => {
             let place = Place::of(text, tokens.as_slice(), at, is_condition);
@@ -97,7 +102,7 @@ fn push_of_checking(
     text: &[u8],
     error: CheckError,
     is_condition: bool,
-) -> Said {
+) -> Result<(), AllocError> {
     match read(alloc, specification) {
         Ok(spec) => {
             let known = KnownNames::of(alloc, specification, &spec, is_condition)?;
@@ -118,7 +123,7 @@ fn push_of_condition(
     known: &KnownNames<'_>,
     text: &[u8],
     error: CheckError,
-) -> Said {
+) -> Result<(), AllocError> {
     match read_term(alloc, text) {
         Ok(term) => {
             let mut search = Search::of(alloc, error.at);
@@ -138,7 +143,7 @@ fn push_of_specification(
     spec: &Spec,
     text: &[u8],
     error: CheckError,
-) -> Said {
+) -> Result<(), AllocError> {
     let name = name_at(text, error.at);
     match error.kind {
         FaultKind::Twice => push_twice(out, known, name, error.at),
@@ -161,7 +166,7 @@ fn push_of_use(
     text: &[u8],
     error: CheckError,
     elsewhere: Option<usize>,
-) -> Said {
+) -> Result<(), AllocError> {
     let Some(Use { role, count }) = search.found else {
         return Ok(());
     };

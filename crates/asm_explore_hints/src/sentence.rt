@@ -1,9 +1,6 @@
 //! Sentences that are put together.
 use std::alloc::AllocError;
 
-/// What adds to a sentence.
-pub(crate) type Said = Result<(), AllocError>;
-
 /// No more bytes of a name are shown.
 const MAX_SHOWN: usize = 60;
 
@@ -14,7 +11,7 @@ pub(crate) fn shown(bytes: &[u8]) -> &str {
 }
 
 /// Adds what is listed, as in `a, b or c`.
-pub(crate) fn push_list(out: &mut String, parts: &[&str], last: &str) -> Said {
+pub(crate) fn push_list(out: &mut String, parts: &[&str], last: &str) -> Result<(), AllocError> {
     let mut left = parts.len();
     for part in parts {
         out.push_str(part)?;
@@ -30,7 +27,7 @@ pub(crate) fn push_list(out: &mut String, parts: &[&str], last: &str) -> Said {
 }
 
 /// Adds a number with what it counts, as in `1 argument` and `2 arguments`.
-pub(crate) fn push_count(out: &mut String, count: usize, one: &str) -> Said {
+pub(crate) fn push_count(out: &mut String, count: usize, one: &str) -> Result<(), AllocError> {
     match count {
         0 => write!(out, "no {one}s"),
         1 => write!(out, "1 {one}"),

@@ -2,7 +2,7 @@
 use crate::candidates::Candidates;
 use crate::open_blocks::{is_end_word, open_blocks};
 use crate::place::Place;
-use crate::sentence::{Said, push_list, shown};
+use crate::sentence::{push_list, shown};
 use crate::symbol_habits::cure_of_symbol;
 use crate::token_habits::{cure_of_end, cure_of_name, cure_of_number, is_second_rule};
 use crate::word_habits::{cure_of_word, push_misspelt, push_reserved};
@@ -11,7 +11,11 @@ use asm_syntax::{Kind, Symbol};
 use std::alloc::{AllocError, Global};
 
 /// Says what cures the fault at a place.
-pub(crate) fn push_unexpected(alloc: Global, out: &mut String, place: &Place<'_>) -> Said {
+pub(crate) fn push_unexpected(
+    alloc: Global,
+    out: &mut String,
+    place: &Place<'_>,
+) -> Result<(), AllocError> {
     let next = Candidates::at(alloc, place)?;
     if let Some(cure) = cure(place, &next) {
         return out.push_str(cure);
@@ -84,7 +88,12 @@ fn push_needless_end(
 }
 
 /// Says what is open at the place, and what could stand there.
-fn push_candidates(alloc: Global, out: &mut String, place: &Place<'_>, next: &Candidates) -> Said {
+fn push_candidates(
+    alloc: Global,
+    out: &mut String,
+    place: &Place<'_>,
+    next: &Candidates,
+) -> Result<(), AllocError> {
     match place.rest {
         [token, ..] => {
             let refused = shown(place.bytes(*token));
@@ -103,7 +112,7 @@ fn push_candidates(alloc: Global, out: &mut String, place: &Place<'_>, next: &Ca
 }
 
 /// Says what is open at the place, if anything is.
-fn push_open(alloc: Global, out: &mut String, place: &Place<'_>) -> Said {
+fn push_open(alloc: Global, out: &mut String, place: &Place<'_>) -> Result<(), AllocError> {
     let open = open_blocks(alloc, place.before)?;
     match open.as_slice() {
         [.., token] => {
@@ -117,7 +126,7 @@ fn push_open(alloc: Global, out: &mut String, place: &Place<'_>) -> Said {
 }
 
 /// Says what could stand at the place.
-fn push_next(alloc: Global, out: &mut String, next: &Candidates) -> Said {
+fn push_next(alloc: Global, out: &mut String, next: &Candidates) -> Result<(), AllocError> {
     let mut parts = Vec::new(alloc);
     for (is_next, part) in kinds(next) {
         if is_next {

@@ -39,8 +39,6 @@ pub(crate) struct Search<'s> {
     pub found: Option<Use>,
 }
 
-type Searched = Result<(), AllocError>;
-
 impl<'s> Search<'s> {
     pub(crate) fn of(alloc: Global, at: usize) -> Search<'s> {
         Search {
@@ -65,7 +63,7 @@ impl<'s> Search<'s> {
     }
 
     /// Searches a specification.
-    pub(crate) fn specification(&mut self, spec: &'s Spec) -> Searched {
+    pub(crate) fn specification(&mut self, spec: &'s Spec) -> Result<(), AllocError> {
         for item in &spec.items {
             if self.found.is_none() {
                 self.item(item)?;
@@ -74,7 +72,7 @@ impl<'s> Search<'s> {
         Ok(())
     }
 
-    fn item(&mut self, item: &'s Item) -> Searched {
+    fn item(&mut self, item: &'s Item) -> Result<(), AllocError> {
         match item {
             Item::Uses(_) | Item::Init(_) | Item::Enum { .. } | Item::Universe { .. } => Ok(()),
             Item::Function {
@@ -110,7 +108,7 @@ impl<'s> Search<'s> {
     }
 
     /// Binds parameters.
-    fn bind(&mut self, names: &'s [Name]) -> Searched {
+    fn bind(&mut self, names: &'s [Name]) -> Result<(), AllocError> {
         for name in names {
             self.bound.push(name)?;
         }
@@ -148,7 +146,7 @@ impl<'s> Search<'s> {
 
     /// Searches a term.
     #[cycle(search_terms)]
-    pub(crate) fn term(&mut self, term: &'s Term) -> Searched {
+    pub(crate) fn term(&mut self, term: &'s Term) -> Result<(), AllocError> {
         if self.found.is_some() {
             return Ok(());
         }
@@ -170,7 +168,7 @@ impl<'s> Search<'s> {
     }
 
     #[cycle(search_terms)]
-    fn terms(&mut self, terms: &'s [Term]) -> Searched {
+    fn terms(&mut self, terms: &'s [Term]) -> Result<(), AllocError> {
         for term in terms {
             self.term(term)?;
         }
@@ -178,7 +176,7 @@ impl<'s> Search<'s> {
     }
 
     #[cycle(search_terms)]
-    fn links(&mut self, links: &'s [(Op, Term)]) -> Searched {
+    fn links(&mut self, links: &'s [(Op, Term)]) -> Result<(), AllocError> {
         for (_, term) in links {
             self.term(term)?;
         }
@@ -186,7 +184,12 @@ impl<'s> Search<'s> {
     }
 
     #[cycle(search_terms)]
-    fn quantifier(&mut self, name: &'s Name, over: &'s Name, test: &'s Term) -> Searched {
+    fn quantifier(
+        &mut self,
+        name: &'s Name,
+        over: &'s Name,
+        test: &'s Term,
+    ) -> Result<(), AllocError> {
         self.note(over, Role::Universe, 0);
         let count = self.bound.len();
         self.push_bound(name)?;
@@ -196,7 +199,7 @@ impl<'s> Search<'s> {
     }
 
     /// Binds a name, if the search goes on.
-    fn push_bound(&mut self, name: &'s Name) -> Searched {
+    fn push_bound(&mut self, name: &'s Name) -> Result<(), AllocError> {
         if self.found.is_none() {
             self.bound.push(name)?;
         }
@@ -204,7 +207,7 @@ impl<'s> Search<'s> {
     }
 
     /// Searches a condition that may be left out.
-    fn test(&mut self, test: Option<&'s Term>) -> Searched {
+    fn test(&mut self, test: Option<&'s Term>) -> Result<(), AllocError> {
         match test {
             Some(test) => self.term(test),
             None => Ok(()),
@@ -212,7 +215,7 @@ impl<'s> Search<'s> {
     }
 
     /// Searches the target of a call, if there is one.
-    fn target(&mut self, target: &'s Option<Target>) -> Searched {
+    fn target(&mut self, target: &'s Option<Target>) -> Result<(), AllocError> {
         match target {
             Some(Target { name, arguments }) => {
                 self.note(name, Role::Target, arguments.len());
@@ -223,29 +226,17 @@ impl<'s> Search<'s> {
     }
 
     #[cycle(search_rules)]
-    fn rule(&mut self, rule: &'s Rule) -> Searched {
+    fn rule(&mut self, rule: &'s Rule) -> Result<(), AllocError> {
         if self.found.is_some() {
             return Ok(());
         }
         match rule {
             Rule::Skip => Ok(()),
-            Rule::Assign {
-                name,
-                arguments,
-                value,
-            } => {
-                self.note(name, Role::Target, arguments.len());
-                self.terms(arguments.as_slice())?;
-                self.term(value)
+            Rule::Assign { .. } | Rule::Call { .. } | Rule::SetResult { .. } => {
+                self.plain_rule(rule)
             }
-            Rule::Call {
-                target,
-                name,
-                arguments,
-            } => {
-                self.target(target)?;
-                self.note(name, role_of_call(target), arguments.len());
-                self.terms(arguments.as_slice())
+            Rule::Let { .. } | Rule::Forall { .. } | Rule::Choose { .. } => {
+                self.binding_rule(rule)
             }
             Rule::Par(parts) => self.rules(parts.as_slice()),
             Rule::Seq(parts) => self.rules(parts.as_slice()),
@@ -254,6 +245,18 @@ impl<'s> Search<'s> {
                 self.rule(yes)?;
                 self.branch(no)
             }
+            Rule::Iterate(body) => self.rule(body),
+            Rule::While { test, body } => {
+                self.term(test)?;
+                self.rule(body)
+            }
+        }
+    }
+
+    /// Searches a rule that binds a name.
+    #[cycle(search_rules)]
+    fn binding_rule(&mut self, rule: &'s Rule) -> Result<(), AllocError> {
+        match rule {
             Rule::Let { name, value, body } => {
                 self.term(value)?;
                 self.binder(name, None, body)
@@ -278,17 +281,38 @@ impl<'s> Search<'s> {
                 self.binder(name, test.as_ref(), body)?;
                 self.branch(none)
             }
-            Rule::Iterate(body) => self.rule(body),
-            Rule::While { test, body } => {
-                self.term(test)?;
-                self.rule(body)
+            _ => Ok(()),
+        }
+    }
+
+    /// Searches an assignment or a call.
+    fn plain_rule(&mut self, rule: &'s Rule) -> Result<(), AllocError> {
+        match rule {
+            Rule::Assign {
+                name,
+                arguments,
+                value,
+            } => {
+                self.note(name, Role::Target, arguments.len());
+                self.terms(arguments.as_slice())?;
+                self.term(value)
+            }
+            Rule::Call {
+                target,
+                name,
+                arguments,
+            } => {
+                self.target(target)?;
+                self.note(name, role_of_call(target), arguments.len());
+                self.terms(arguments.as_slice())
             }
             Rule::SetResult { value, .. } => self.term(value),
+            _ => Ok(()),
         }
     }
 
     #[cycle(search_rules)]
-    fn rules(&mut self, parts: &'s [Rule]) -> Searched {
+    fn rules(&mut self, parts: &'s [Rule]) -> Result<(), AllocError> {
         for part in parts {
             self.rule(part)?;
         }
@@ -297,7 +321,12 @@ impl<'s> Search<'s> {
 
     /// Searches where a name is bound.
     #[cycle(search_rules)]
-    fn binder(&mut self, name: &'s Name, test: Option<&'s Term>, body: &'s Rule) -> Searched {
+    fn binder(
+        &mut self,
+        name: &'s Name,
+        test: Option<&'s Term>,
+        body: &'s Rule,
+    ) -> Result<(), AllocError> {
         let count = self.bound.len();
         self.push_bound(name)?;
         self.test(test)?;
@@ -307,7 +336,7 @@ impl<'s> Search<'s> {
     }
 
     #[cycle(search_rules)]
-    fn branch(&mut self, rule: &'s Option<Box<Rule>>) -> Searched {
+    fn branch(&mut self, rule: &'s Option<Box<Rule>>) -> Result<(), AllocError> {
         match rule {
             Some(rule) => self.rule(rule),
             None => Ok(()),

@@ -1,5 +1,5 @@
 //! What is said of words that can't be understood, with tips that are right.
-use crate::sentence::{Said, push_list};
+use crate::sentence::push_list;
 use std::alloc::{AllocError, Global};
 use std::convert::AsStr;
 
@@ -33,7 +33,11 @@ pub fn with_tips<S: AsStr>(alloc: Global, words: &[S], text: &str) -> Result<Str
 }
 
 /// Says which commands there are, if the first word is none.
-fn push_command_tip<S: AsStr>(alloc: Global, out: &mut String, words: &[S]) -> Said {
+fn push_command_tip<S: AsStr>(
+    alloc: Global,
+    out: &mut String,
+    words: &[S],
+) -> Result<(), AllocError> {
     let Some(first) = words.first() else {
         return Ok(());
     };
@@ -79,7 +83,7 @@ fn minus_option<S: AsStr>(words: &[S]) -> Option<&'static str> {
 }
 
 /// Says how a condition is given that begins with a minus.
-fn push_minus_tip(out: &mut String, option: &str) -> Said {
+fn push_minus_tip(out: &mut String, option: &str) -> Result<(), AllocError> {
     write!(
         out,
         "  tip: a condition that begins with a minus stands behind an equals sign, as in {option}='-x < 3'"

@@ -3,10 +3,9 @@
 --     Seen, seen d        a name with that; those of a declaration
 --     seen_in item        those of the declarations of an item
 --     seen_of d           those that the code has
-use Rattle.std.specs.Prelude.{ℕ, List, map, length}
+use Rattle.std.specs.Prelude.{List, map, length}
 use Rattle.asm_syntax.specs.SourceTree as source
-use Rattle.asm_syntax.specs.code.Views.{name_of, item_of}
-use Rattle.asm_syntax.specs.declared.spec.Item.{Item}
+use Rattle.asm_syntax.specs.code.Views.{name_of}
 use Rattle.asm_check.specs.Names as names
 use Rattle.asm_check.specs.Names.{declarations_of}
 use Rattle.asm_explore_hints.specs.declared.declarations.Declaration.{Declaration}
