@@ -264,6 +264,11 @@ NAMES = [
     Mistake(
         9,
         "no name that could stand here is nearly this: declare it, as in `function controlled weight initially 0`, or bind it, as by `let` or `exists`",
+        [("at + 1", "at + ¦weight")],
+    ),
+    Mistake(
+        9,
+        "no function has nearly this name: declare it, as in `function controlled weight initially 0`",
         [("door := open", "door := open ¦weight := 1")],
     ),
     Mistake(9, "no rule has nearly this name: declare it, as in `rule Halt = skip`", [("door := open", "¦Halt")]),

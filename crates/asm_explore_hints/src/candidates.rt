@@ -85,6 +85,14 @@ impl Candidates {
         })
     }
 
+    /// Whether nothing could stand there, as behind the most bytes that a text may have.
+    pub(crate) fn is_empty(&self) -> bool {
+        !(self.declaration || self.rule || self.term || self.constant || self.name)
+            && !(self.number || self.operator || self.equal || self.open || self.open_brace)
+            && !self.star
+            && self.words.is_empty()
+    }
+
     /// Whether this word in quotes, which is among those that are named one by one, could stand
     /// there.
     pub(crate) fn has(&self, quoted: &str) -> bool {

@@ -116,7 +116,11 @@ pub(crate) fn cure_of_other_kind(role: Role, meaning: Meaning) -> &'static str {
 /// Says how a name is declared that is to stand in this role.
 pub(crate) fn push_declaration(out: &mut String, role: Role, name: &str) -> Result<(), AllocError> {
     match role {
-        Role::Term | Role::Target => write!(
+        Role::Target => write!(
+            out,
+            "no function has nearly this name: declare it, as in `function controlled {name} initially 0`"
+        ),
+        Role::Term => write!(
             out,
             "no name that could stand here is nearly this: declare it, as in `function controlled {name} initially 0`, or bind it, as by `let` or `exists`"
         ),

@@ -20,7 +20,7 @@ pub(crate) fn push_unexpected(
     if let Some(cure) = cure(place, &next) {
         return out.push_str(cure);
     }
-    if push_named(alloc, out, place, &next)? {
+    if push_named(alloc, out, place, &next)? || next.is_empty() {
         return Ok(());
     }
     push_candidates(alloc, out, place, &next)
