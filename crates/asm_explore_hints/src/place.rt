@@ -137,6 +137,19 @@ impl<'t> Place<'t> {
         }
     }
 
+    /// Whether the text declares this name before the place.
+    pub(crate) fn declares(&self, name: &[u8]) -> bool {
+        let mut is_declared = false;
+        let mut is_next = false;
+        for token in self.before {
+            if is_next && self.bytes(*token) == name {
+                is_declared = true;
+            }
+            is_next = is_declaring(token.kind);
+        }
+        is_declared
+    }
+
     /// The bytes of a token.
     pub(crate) fn bytes(&self, token: Token) -> &'t [u8] {
         token_bytes(self.text, token)
@@ -174,6 +187,21 @@ fn is_item(kind: Kind) -> bool {
                 | Keyword::Enum
                 | Keyword::Universe
                 | Keyword::Function
+                | Keyword::Derived
+                | Keyword::Rule
+        )
+    )
+}
+
+/// Whether a name that is declared stands behind this.
+fn is_declaring(kind: Kind) -> bool {
+    matches!(
+        kind,
+        Kind::Keyword(
+            Keyword::Enum
+                | Keyword::Universe
+                | Keyword::Controlled
+                | Keyword::Static
                 | Keyword::Derived
                 | Keyword::Rule
         )

@@ -170,7 +170,7 @@ fn push_misspelt_before(out: &mut String, place: &Place<'_>) -> Result<bool, All
         let Some(token) = place.back(count) else {
             return Ok(false);
         };
-        if token.kind != Kind::Name {
+        if token.kind != Kind::Name || place.declares(place.bytes(token)) {
             continue;
         }
         for word in &WORDS {
