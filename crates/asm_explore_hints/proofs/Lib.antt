@@ -1,1 +1,2 @@
 mod DeclaredSteps
+mod EditedWords
