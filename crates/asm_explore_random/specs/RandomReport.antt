@@ -15,7 +15,7 @@
 --                                text
 --     ExplainsRandom             why there is no report: a text is refused, memory ran out, or of what
 --                                is asked the run that was found isn't confirmed
-use Rattle.std.specs.Prelude.{◌≡◌, ℕ, List, ◌++◌, Option, codes, decimal, ⊤}
+use Rattle.std.specs.Prelude.{◌≡◌, ℕ, List, [], ◌++◌, Option, codes, decimal, ⊤}
 use Rattle.asm_syntax.specs.SourceTree.{Spec, Term}
 use Rattle.asm_meaning.specs.Declarations.{specification_of}
 use Rattle.asm_explore.specs.Conditions.{condition_holds}
