@@ -28,7 +28,7 @@ IsOfReport Write = ⊥
 IsOfReport fault = ⊤
 
 of_cause : (text : List ℕ) (why : Fault) (fault : NoAnswer) → IsToldOf text why fault → IsOfReport fault
-of_cause text (cause.Text refused) fault is = subst IsOfReport (sym is.2.1) tt
+of_cause text (cause.Text refused) fault is = subst IsOfReport (sym is.2) tt
 of_cause text cause.Memory fault is = subst IsOfReport (sym is) tt
 of_cause text (cause.Graph name) fault is = subst IsOfReport (sym is) tt
 of_cause text (cause.QuietScript name) fault is = subst IsOfReport (sym is) tt

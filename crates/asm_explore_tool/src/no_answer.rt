@@ -49,7 +49,7 @@ impl<'w> NoAnswer<'w> {
 
     /// Where there is no report, for a specification with this text.
     pub(crate) fn of_report(fault: Fault<'w>, text: Vec<u8>) -> NoAnswer<'w>
-        ensures { IsToldOf text.entry.items fault.entry result }
+        ensures { IsToldOf text.items fault.entry result }
     {
         match fault {
             Fault::Text(refused) => NoAnswer::Text(refused, Some(text)),

@@ -138,7 +138,7 @@ fn report_of_random<'w, R: Threads + Sync, F: Folder, I: Read + Drop, W: Watch<R
 /// A report for a specification with this text, or why there is none.
 fn told<'w>(report: Result<Report, Fault<'w>>, text: Vec<u8>) -> Result<Report, NoAnswer<'w>>
     ensures report { IfOk result (λ made. report.entry ≡ Ok made) }
-    ensures explained { IfErr result (λ fault. (cause : Cause) × (report.entry ≡ Err cause) × IsToldOf text.entry.items cause fault) }
+    ensures explained { IfErr result (λ fault. (cause : Cause) × (report.entry ≡ Err cause) × IsToldOf text.items cause fault) }
 {
     match report {
         Ok(report) => Ok(report),
