@@ -7,7 +7,7 @@ from typing import NamedTuple
 import reader
 from because import Reasons
 from model import Step
-from one_run import OneRun, shown_path, shown_place
+from one_run import LONGEST, OneRun, shown_path, shown_place
 
 # So many locations are columns if none is named, so many assignments are shown of a step that fails, and a line of choices has so many bytes.
 MOST_COLUMNS, MOST_ASSIGNMENTS, LONGEST_LINE = 200, 100, 40
@@ -245,8 +245,9 @@ def answered(run, asked, spec="-"):
     lines = [f"# {one}" if one else "#" for one in comments(run, asked, spec)]
     lines += assignments(run)
     lines += [f"# no choose met line {line.line} of the script: {line.text}" for line in unmet]
-    lines += [f"{step} {shown_path(choice.path)} {choice.number}" for step, choice in run.choices if choice.number]
-    return "".join(f"{line}\n" for line in lines), 1 if run.fault else 6 if unmet else 0
+    script = "".join(f"{step} {shown_path(choice.path)} {choice.number}\n" for step, choice in run.choices if choice.number)
+    text = "".join(f"{line}\n" for line in lines) + (script if len(script) <= LONGEST else "# left out: the script\n")
+    return text, 1 if run.fault else 6 if unmet else 0
 
 
 def shown(text, script="", asked=Asked(), spec="-"):

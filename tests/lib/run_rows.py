@@ -33,7 +33,7 @@ def of_limits(command, limits):
             yield refused(4, [command, "-", f"--{option}={value}"], f"error: invalid value '{value}' for '--{option} <N>': ")
         yield refused(4, [command, "-", f"--{option}"], f"error: a value is required for '--{option} <N>' but none was supplied\n")
         twice = f"error: the argument '--{option} <N>' cannot be used multiple times\n"
-        yield refused(4, [command, "-", f"--{option}", "2", f"--{option}", "2"], twice)
+        yield refused(4, [command, "-", f"--{option}", str(most), f"--{option}", str(most)], twice)
 
 
 def of_numbers(command):
