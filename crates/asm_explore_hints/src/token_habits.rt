@@ -13,6 +13,15 @@ const KIND: &str =
 const ENTRY: &str =
     "the arguments of an entry stand in parentheses, also a single one: `{ (0) -> false, (1) -> true }`";
 
+const STATIC: &str =
+    "write `function static n initially 3`; the ends of a universe stay numbers, as in `0 .. 3`";
+
+/// The words by which other languages declare a constant.
+static CONSTANTS: [&str; 3] = ["const", "constant", "define"];
+
+/// Those by which they declare what changes.
+static VARIABLES: [&str; 5] = ["var", "variable", "dynamic", "shared", "monitored"];
+
 /// What cures the end of a text before which it isn't whole.
 pub(crate) fn cure_of_end(next: &Candidates) -> Option<&'static str> {
     if next.has("`CoreASM`") {
@@ -78,13 +87,18 @@ fn cure_behind_word(place: &Place<'_>) -> Option<&'static str> {
 
 /// What cures a word by which another language declares something.
 fn cure_of_declaring_word(word: &[u8]) -> Option<&'static str> {
-    match word {
-        b"const" | b"constant" | b"define" => Some(
-            "write `function static n initially 3`; the ends of a universe stay numbers, as in `0 .. 3`",
-        ),
-        b"var" | b"variable" | b"dynamic" | b"shared" | b"monitored" => Some(CONTROLLED),
-        _ => None,
+    if is_among(word, &CONSTANTS) {
+        return Some(STATIC);
     }
+    if is_among(word, &VARIABLES) {
+        return Some(CONTROLLED);
+    }
+    None
+}
+
+/// Whether a word is one of these.
+fn is_among(word: &[u8], words: &[&str]) -> bool {
+    words.iter().any(|other| other.as_bytes() == word)
 }
 
 /// Whether a condition begins with a word that says when it is to hold.
