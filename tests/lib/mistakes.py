@@ -182,6 +182,8 @@ TOKENS = [
     Mistake(5, "leave `call` out: a rule is called by its name alone, as in `Serve(x)`", [(SERVED, "then call ¦Serve(at) endif")]),
     Mistake(5, "there is no `case`: write `if c then P else Q endif`", [("if a = car then Move else Press endif", "case ¦a of car : Move")]),
     # What is open, and what could stand there.
+    Mistake(5, "`closed` can't stand here: the `{` of line 5 is open: `}` or `,`", [("{ open, closed }", "{ open, call ¦closed }")]),
+    Mistake(5, "`called` can't stand here: the `if` of line 22 is open: `then` or an operator", [("if called(at) then", "if called ¦called(at) then")]),
     Mistake(
         5,
         "`)` can't stand here: the `par` of line 30 is open: a rule, `endpar` or an operator",
@@ -232,6 +234,8 @@ TOKENS = [
     Mistake(5, "`init` is a reserved word, which can't be a name: write another, as `init_`", [(SAFE, "derived isSafe = at >= ¦init and at <= 3")]),
     Mistake(5, "`init` is a reserved word, which can't be a name: write another, as `init_`", [("if f > at", "if f > ¦init")]),
     Mistake(5, "`with` is a reserved word, which can't be a name: write another, as `with_`", [(SAFE, "derived isSafe = ¦with >= 0")]),
+    Mistake(5, "`and` can't stand here, only a term", [(SAFE, "derived isSafe = at >= 0 and ¦and <= 3")]),
+    Mistake(5, "`mod` is a reserved word, which can't be a name: write another, as `mod_`", [(SAFE, "derived isSafe = ¦mod >= 0")]),
     Mistake(5, "`rule` can't stand here, only a term", [(SAFE, "derived isSafe = at >="), ("rule Step", "¦rule Step")]),
     Mistake(5, "`endchose` is no reserved word: perhaps `endchoose` is meant", [("else Press endif\nendchoose", "else Press endif\n¦endchose")]),
     Mistake(5, "`Choose` in line 19 is no reserved word: perhaps `choose` is meant", [("rule Press = choose f", "rule Press = Choose ¦f")]),

@@ -25,18 +25,27 @@ pub(crate) fn push_name_with_minus(
 
 /// Says how an argument is written, if one is refused without parentheses. Returns whether one is.
 pub(crate) fn push_bare_argument(out: &mut String, place: &Place<'_>) -> Result<bool, AllocError> {
-    let is_argument = match place.ahead(0) {
-        Some(token) => matches!(token.kind, Kind::Name | Kind::Number(_)),
-        None => false,
-    };
-    let function = place.bytes_back(1);
-    if !is_argument || !place.is_in_line() || !place.takes_arguments(function) {
+    let (function, argument) = (place.bytes_back(1), place.refused());
+    if !is_alone(place) || function == argument || !place.takes_arguments(function) {
         return Ok(false);
     }
-    let (function, argument) = (shown(function), shown(place.refused()));
+    let (function, argument) = (shown(function), shown(argument));
     write!(
         out,
         "arguments stand in parentheses: `{function}({argument})`"
     )?;
     Ok(true)
+}
+
+/// Whether a name or a number is refused in its line, and has no arguments.
+fn is_alone(place: &Place<'_>) -> bool {
+    let is_argument = match place.ahead(0) {
+        Some(token) => matches!(token.kind, Kind::Name | Kind::Number(_)),
+        None => false,
+    };
+    let has_arguments = match place.ahead(1) {
+        Some(token) => token.kind == Kind::Symbol(Symbol::Open),
+        None => false,
+    };
+    is_argument && !has_arguments && place.is_in_line()
 }

@@ -41,7 +41,10 @@ fn is_for_name(word: Keyword, place: &Place<'_>, next: &Candidates) -> bool {
     if next.name {
         return true;
     }
-    (next.rule || next.term) && (is_before_operator(place) || is_lone(word, place))
+    if !next.rule && !next.term {
+        return false;
+    }
+    is_lone(word, place) || (!is_connective(word) && is_before_operator(place))
 }
 
 /// Whether the token before the place is a word with which a rule begins.
@@ -53,6 +56,12 @@ fn is_behind_rule_word(place: &Place<'_>) -> bool {
         },
         None => false,
     }
+}
+
+/// Whether conditions are joined by this word, before which one is missing rather than that it is a
+/// name.
+fn is_connective(word: Keyword) -> bool {
+    matches!(word, Keyword::And | Keyword::Or | Keyword::Not)
 }
 
 /// Whether what stands behind the token that is refused goes on with a name.

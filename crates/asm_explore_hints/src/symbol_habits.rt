@@ -224,7 +224,7 @@ fn cure_of_sum(place: &Place<'_>, next: &Candidates) -> Option<&'static str> {
 
 /// What cures an operator behind the ends of a universe.
 pub(crate) fn cure_of_ends(place: &Place<'_>, next: &Candidates) -> Option<&'static str> {
-    if next.declaration && place.has_word_in_item(Keyword::Universe) {
+    if next.declaration && place.is_in_line() && place.has_word_in_item(Keyword::Universe) {
         return Some(ENDS);
     }
     None

@@ -59,7 +59,7 @@ pub(crate) fn cure_of_name(place: &Place<'_>, next: &Candidates) -> Option<&'sta
     if let Some(cure) = cure_of_any(place, next) {
         return Some(cure);
     }
-    if let Some(cure) = cure_behind_word(place) {
+    if let Some(cure) = cure_behind_word(place, next) {
         return Some(cure);
     }
     if next.declaration
@@ -71,9 +71,9 @@ pub(crate) fn cure_of_name(place: &Place<'_>, next: &Candidates) -> Option<&'sta
 }
 
 /// What cures a name behind a word of another language, which is read as a call.
-fn cure_behind_word(place: &Place<'_>) -> Option<&'static str> {
+fn cure_behind_word(place: &Place<'_>, next: &Candidates) -> Option<&'static str> {
     let word = place.bytes_back(1);
-    if place.declares(word) {
+    if !place.is_in_rule() || next.operator || place.declares(word) {
         return None;
     }
     match word {
