@@ -183,6 +183,8 @@ TOKENS = [
     Mistake(5, "there is no `case`: write `if c then P else Q endif`", [("if a = car then Move else Press endif", "case ¦a of car : Move")]),
     # What is open, and what could stand there.
     Mistake(5, "`closed` can't stand here: the `{` of line 5 is open: `}` or `,`", [("{ open, closed }", "{ open, call ¦closed }")]),
+    Mistake(5, "`car` can't stand here: the `{` of line 4 is open: `}` or `,`", [("{ car, user }", "{ called ¦car, user }")]),
+    Mistake(5, "`:=` can't stand here: the `par` of line 30 is open: a rule", [("par\n  door := open", "par\n  ¦:= open")]),
     Mistake(5, "`called` can't stand here: the `if` of line 22 is open: `then` or an operator", [("if called(at) then", "if called ¦called(at) then")]),
     Mistake(
         5,

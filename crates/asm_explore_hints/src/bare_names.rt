@@ -37,7 +37,8 @@ pub(crate) fn push_bare_argument(out: &mut String, place: &Place<'_>) -> Result<
     Ok(true)
 }
 
-/// Whether a name or a number is refused in its line, and has no arguments.
+/// Whether a name or a number is refused that has no arguments, in the line of what is before it, and
+/// where terms stand.
 fn is_alone(place: &Place<'_>) -> bool {
     let is_argument = match place.ahead(0) {
         Some(token) => matches!(token.kind, Kind::Name | Kind::Number(_)),
@@ -47,5 +48,5 @@ fn is_alone(place: &Place<'_>) -> bool {
         Some(token) => token.kind == Kind::Symbol(Symbol::Open),
         None => false,
     };
-    is_argument && !has_arguments && place.is_in_line()
+    is_argument && !has_arguments && place.is_in_line() && place.is_in_body_item()
 }

@@ -28,7 +28,9 @@ pub(crate) fn push_reserved(
 fn reserved<'t>(place: &Place<'t>, next: &Candidates) -> Option<&'t [u8]> {
     match place.ahead(0)?.kind {
         Kind::Keyword(word) if is_for_name(word, place, next) => Some(place.refused()),
-        Kind::Symbol(Symbol::Assign) if is_behind_rule_word(place) => Some(place.bytes_back(1)),
+        Kind::Symbol(Symbol::Assign) if is_behind_rule_word(place) && place.is_in_line() => {
+            Some(place.bytes_back(1))
+        }
         _ => None,
     }
 }
