@@ -75,6 +75,13 @@ SEVERAL = "; several rules stand between `par` and `endpar`, or between `seq` an
 ASSIGNS = "a rule assigns, as in `x := x + 1`"
 EQUAL = "here stands `=`: `:=` is for assignments alone"
 ENUM = "a `universe` has numbers, as `1 .. 3`; names are declared by `enum`, as in `enum Colour = { red, green }`"
+SEPARATED = "elements and arguments are separated by `,`"
+COMMENT = "a comment begins with `//`"
+CONTROLLED = "`function` stands before `controlled` and `static`, as in `function controlled x`"
+NO_AND = "no `and` stands between rules: group them by `par` and `endpar`, or by `seq` and `endseq`"
+NO_PARENTHESIS = "`)` can't stand here: no `(` is open that it could close: leave it out"
+COUNT = "nothing is counted: at most one `x` of `U` has `c` if `(forall x in U holds (forall y in U holds x = y or not (c(x) and c(y))))`"
+SKIP = "; `skip` does nothing"
 TAKES_1 = "it takes 1 argument"
 ENTRY = "the arguments of an entry stand in parentheses, also a single one: `{ (0) -> false, (1) -> true }`"
 
@@ -107,6 +114,21 @@ BYTES = [
     Mistake(2, "write `mod`", [("at + 1", "at ¦% 2")]),
     Mistake(2, "write `div`, which divides integers", [("at + 1", "at ¦/ 2")]),
     Mistake(2, "write `!=`", [("a = car", "a ¦≠ car")]),
+    # What the byte stands for depends on what is before it.
+    Mistake(2, SEPARATED, [("{ open, closed }", "{ open¦; closed }")]),
+    Mistake(2, "write `with`", [(ANY, "(exists f in Floor ¦| called(f))")]),
+    Mistake(2, "write `holds`", [(ANY, "(forall f in Floor ¦| called(f))")]),
+    Mistake(
+        2,
+        "there are no sizes and no absolute values: write the number, and compare twice, as in `-3 < x and x < 3`",
+        [("at <= 3", "at < ¦|Floor|")],
+    ),
+    Mistake(2, "the ends of a universe have no brackets, as in `universe Floor = 0 .. 3`", [("0 .. 3", "¦[0 .. 3]")]),
+    Mistake(2, UNIVERSE, [(PRESS, "choose f in ¦[0 .. 3] do skip endchoose")]),
+    Mistake(2, "write two dots, as in `0 .. 3`", [("0 .. 3", "0..¦.3")]),
+    Mistake(2, STRINGS, [("door := open", "door := ¦“open”")]),
+    Mistake(2, STRINGS, [("door := open", "door := ¦«open»")]),
+    Mistake(2, COMMENT, [("door := open", "door := open -- it¦'s open")]),
     Mistake(
         4,
         "a name begins with a letter or `_`: put the digits behind; between a number and a word stands a space",
@@ -143,7 +165,36 @@ TOKENS = [
     Mistake(5, PARAMETER, [("rule Serve(f)", "rule Serve(f ¦: Floor)")]),
     Mistake(5, BRACES, [("rule Move = par", "rule Move = ¦{")]),
     Mistake(5, "`:` can't stand here, only `=`", [("rule Move = par", "rule Move¦: par")]),
+    Mistake(5, "write `->`", [("Floor -> BOOLEAN", "Floor ¦=> BOOLEAN")]),
+    Mistake(5, NO_AND, [("door := open\n  called(f) := false", "door := open and called(f) ¦:= false")]),
+    Mistake(5, NO_AND, [("then Move else", "then Move ¦and Press else")]),
+    Mistake(5, "in a term `=` compares: `:=` is for assignments alone", [("a = car then", "a = car and at ¦:= 3 then")]),
+    Mistake(5, COMMENT, [("initially 0", "initially 0 ¦-- the lowest floor")]),
+    Mistake(5, COMMENT, [(UP, "at := at + 1 -- up ¦1 else")]),
+    Mistake(5, "`endif` can't stand here: the `if` of line 25 is open: a term", [("at := at - 1 endif", "at := at-- ¦endif")]),
+    Mistake(5, NO_PARENTHESIS, [(ANY, ANY + "¦)")]),
+    Mistake(5, NO_PARENTHESIS, [("if called(at) then", "if called(at)¦) then")]),
+    Mistake(5, "a name has no `-`: write `is_safe`", [("derived isSafe", "derived is¦-safe")]),
+    Mistake(5, "a name has no `-`: write `half_open`", [("{ open, closed }", "{ closed, half¦-open }")]),
+    Mistake(5, "arguments stand in parentheses: `called(f)`", [(PRESS, "choose f in Floor do called ¦f := true endchoose")]),
+    Mistake(5, "arguments stand in parentheses: `called(at)`", [("if called(at) then", "if called ¦at then")]),
+    Mistake(5, "arguments stand in parentheses: `Serve(at)`", [(SERVED, "then Serve ¦at endif")]),
+    Mistake(5, "leave `call` out: a rule is called by its name alone, as in `Serve(x)`", [(SERVED, "then call ¦Serve(at) endif")]),
+    Mistake(5, "there is no `case`: write `if c then P else Q endif`", [("if a = car then Move else Press endif", "case ¦a of car : Move")]),
     # What is open, and what could stand there.
+    Mistake(5, "`closed` can't stand here: the `{` of line 5 is open: `}` or `,`", [("{ open, closed }", "{ open, call ¦closed }")]),
+    Mistake(5, "`car` can't stand here: the `{` of line 4 is open: `}` or `,`", [("{ car, user }", "{ called ¦car, user }")]),
+    Mistake(5, "`:=` can't stand here: the `par` of line 30 is open: a rule", [("par\n  door := open", "par\n  ¦:= open")]),
+    Mistake(5, "`called` can't stand here: the `if` of line 22 is open: `then` or an operator", [("if called(at) then", "if called ¦called(at) then")]),
+    Mistake(
+        5,
+        "`)` can't stand here: the `par` of line 30 is open: a rule, `endpar` or an operator",
+        [("called(f) := false\nendpar", "called(f) := false\n¦)")],
+    ),
+    Mistake(5, "`endif` can't stand here: the `if` of line 22 is open: a rule" + SKIP, [(SERVED, "then ¦endif")]),
+    Mistake(5, "`endif` can't stand here: the `if` of line 16 is open: a rule" + SKIP, [("Move else Press endif", "Move else ¦endif")]),
+    Mistake(5, "`else` can't stand here: the `if` of line 16 is open: a rule" + SKIP, [("then Move else", "then ¦else")]),
+    Mistake(5, "`endpar` can't stand here: the `par` of line 30 is open: a rule" + SKIP, [("door := open\n  called(f) := false\nendpar", "¦endpar")]),
     Mistake(5, "`endchoose` can't stand here: the `if` of line 16 is open: `endif`", [("Press endif\nendchoose", "Press\n¦endchoose")]),
     Mistake(
         5,
@@ -180,10 +231,22 @@ TOKENS = [
     # Words.
     Mistake(5, "`result` is a reserved word, which can't be a name: write another, as `result_`", [("controlled door", "controlled ¦result")]),
     Mistake(5, "`in` is a reserved word, which can't be a name: write another, as `in_`", [("controlled at", "controlled ¦in")]),
+    Mistake(5, "`use` is a reserved word, which can't be a name: write another, as `use_`", [("door := open", "¦use := open")]),
+    Mistake(5, "`par` is a reserved word, which can't be a name: write another, as `par_`", [("door := open", "par ¦:= open")]),
+    Mistake(5, "`init` is a reserved word, which can't be a name: write another, as `init_`", [(SAFE, "derived isSafe = at >= ¦init and at <= 3")]),
+    Mistake(5, "`init` is a reserved word, which can't be a name: write another, as `init_`", [("if f > at", "if f > ¦init")]),
+    Mistake(5, "`with` is a reserved word, which can't be a name: write another, as `with_`", [(SAFE, "derived isSafe = ¦with >= 0")]),
+    Mistake(5, "`and` can't stand here, only a term", [(SAFE, "derived isSafe = at >= 0 and ¦and <= 3")]),
+    Mistake(5, "`mod` is a reserved word, which can't be a name: write another, as `mod_`", [(SAFE, "derived isSafe = ¦mod >= 0")]),
+    Mistake(5, "`rule` can't stand here, only a term", [(SAFE, "derived isSafe = at >="), ("rule Step", "¦rule Step")]),
     Mistake(5, "`endchose` is no reserved word: perhaps `endchoose` is meant", [("else Press endif\nendchoose", "else Press endif\n¦endchose")]),
     Mistake(5, "`Choose` in line 19 is no reserved word: perhaps `choose` is meant", [("rule Press = choose f", "rule Press = Choose ¦f")]),
     Mistake(5, "`chose` in line 19 is no reserved word: perhaps `choose` is meant", [("rule Press = choose f", "rule Press = chose ¦f")]),
     Mistake(5, "leave `function` out, as in `derived isFull = count >= 3`", [("derived isSafe", "derived ¦function isSafe")]),
+    Mistake(5, "leave `function` out, as in `derived isFull = count >= 3`", [("derived isSafe", "function ¦derived isSafe")]),
+    Mistake(5, "put it in parentheses: `(not c)`", [("at) and anyCall", "at) and isSafe = ¦not anyCall")]),
+    Mistake(5, "put it in parentheses: `(not c)`", [("if not called(at)", "if not ¦not called(at)")]),
+    Mistake(5, COUNT, [(SAFE, "derived isSafe = count(f ¦in Floor with called(f)) <= 1")]),
     Mistake(5, "leave `rule` out, as in `init Main`", [("init Step", "init ¦rule Step")]),
     Mistake(5, HEADER, [("CoreASM Lift", "¦asm Lift")]),
     Mistake(5, HEADER, [("CoreASM Lift\ninit", "¦init")]),
@@ -203,7 +266,17 @@ TOKENS = [
     Mistake(5, "a `:` stands before the `->`, as in `function controlled x : -> NUMBER`", [("at : ->", "at ¦->")]),
     Mistake(5, "the universes of a domain are joined by `*`, as in `f : U * V -> NUMBER`", [("called : Floor", "called : Floor¦, Door")]),
     Mistake(5, KIND, [("function controlled door", "function ¦door")]),
+    Mistake(5, CONTROLLED, [("function controlled door", "¦controlled door")]),
+    Mistake(5, CONTROLLED, [("function controlled door", "¦dynamic controlled door")]),
+    Mistake(5, CONTROLLED, [("function controlled door", "¦var door")]),
+    Mistake(
+        5,
+        "write `function static n initially 3`; the ends of a universe stay numbers, as in `0 .. 3`",
+        [("universe Floor", "¦const N = 3\nuniverse Floor")],
+    ),
     Mistake(5, ENDS, [("0 .. 3", "0 .. ¦top")]),
+    Mistake(5, ENDS, [("0 .. 3", "0 .. 1 ¦+ 2")]),
+    Mistake(5, ENDS, [("0 .. 3", "0 .. 7 ¦div 2")]),
     Mistake(5, ENUM, [("universe Floor = 0 .. 3", "universe Floor = ¦{ 0, 1, 2, 3 }")]),
     Mistake(5, "`-` can't stand here, only `..`", [("universe Floor = 0 .. 3", "universe Floor = 0 ¦- 3")]),
     Mistake(5, "`open` can't stand here, only `{`", [("{ open, closed }", "¦open, closed")]),
@@ -230,6 +303,30 @@ NAMES = [
     Mistake(9, "`Floor` is a universe, declared in line 6" + NO_MORE, [(ANY, "(exists f in ¦Floors with called(f))")]),
     Mistake(9, "`Serve` is a rule, declared in line 30" + NO_MORE, [(SERVED, "then ¦Served(at) endif")]),
     Mistake(9, "`floor`, which is bound here, has nearly this name", [(PRESS, "choose floor in Floor do called(¦flor) := true endchoose")]),
+    Mistake(9, COMMENT, [("door := open", "door := open -- open ¦it")]),
+    Mistake(
+        9,
+        "no name that could stand here is nearly this: declare it, as in `function controlled ajar initially 0`, add it to an enumeration, or bind it, as by `let` or `exists`",
+        [("door := open", "door := ¦ajar")],
+    ),
+    Mistake(
+        9,
+        "no functions are built in: let a rule choose, as in `if x < y then z := x else z := y endif`",
+        [("at := at + 1", "at := ¦min(at + 1, 3)")],
+    ),
+    Mistake(9, "no functions are built in: compare twice, as in `-3 < x and x < 3`", [(SAFE, "derived isSafe = ¦abs(at) <= 3")]),
+    Mistake(
+        9,
+        "no function has nearly this name, and none is built in: declare it, as in `function controlled further : U -> NUMBER initially 0`",
+        [("at := at + 1", "at := ¦further(at)")],
+    ),
+    Mistake(
+        9,
+        "no function has nearly this name: declare it, as in `function controlled light : U * U -> NUMBER initially 0`",
+        [("door := open", "¦light(f, f) := open")],
+    ),
+    Mistake(9, "no rule has nearly this name: declare it, as in `rule Wander(x) = skip`", [("then Move", "then ¦Wander(at)")]),
+    Mistake(9, "nothing stands between the rules of a `seq`: leave it out", [("door := open\n", "seq door := open ¦next skip endseq\n")]),
     Mistake(9, "write `true`, in small letters", [("if called(at) then", "if called(at) = ¦True then")]),
     Mistake(9, "write `undef`: that is the value of what was given none", [("door := open", "door := ¦null")]),
     Mistake(9, "write `BOOLEAN`", [("-> BOOLEAN", "-> ¦Bool")]),
@@ -263,7 +360,7 @@ NAMES = [
     Mistake(9, "nothing is printed: the trace shows each update, so assign to a function", [("door := open", "¦print(f)")]),
     Mistake(
         9,
-        "no name that could stand here is nearly this: declare it, as in `function controlled weight initially 0`, or bind it, as by `let` or `exists`",
+        "no name that could stand here is nearly this: declare it, as in `function controlled weight initially 0`, add it to an enumeration, or bind it, as by `let` or `exists`",
         [("at + 1", "at + ¦weight")],
     ),
     Mistake(

@@ -1,9 +1,13 @@
 //! What cures a name that is used as it can't be.
 use crate::declarations::{Declaration, Meaning};
-use crate::foreign_names::{cure_of_foreign, cure_of_other_kind, push_declaration, wanted};
+use crate::foreign_names::{
+    cure_of_built_in, cure_of_foreign, cure_of_other_kind, push_declaration, wanted,
+};
 use crate::known_names::{KnownNames, bound_name, nearest_bound};
 use crate::near::is_same_in_lower_case;
 use crate::sentence::{push_count, shown};
+use crate::symbol_habits::ALWAYS;
+use crate::token_habits::is_temporal;
 use crate::uses::Role;
 use asm_explore_texts::position::Position;
 use asm_syntax::name::Name;
@@ -46,7 +50,21 @@ impl BadName<'_, '_> {
             self.known.push_declared(out, near)?;
             return out.push_str(", and has nearly this name");
         }
-        self.push_elsewhere(out)
+        match self.built_in() {
+            Some(cure) => out.push_str(cure),
+            None => self.push_elsewhere(out),
+        }
+    }
+
+    /// What cures the name, if it stands for a function that other languages have.
+    fn built_in(&self) -> Option<&'static str> {
+        if self.role != Role::Term || self.count == 0 {
+            return None;
+        }
+        if self.known.is_for_condition() && is_temporal(self.name) {
+            return Some(ALWAYS);
+        }
+        cure_of_built_in(self.name)
     }
 
     /// Says what is declared that differs in upper and lower case alone, and is no such thing as
@@ -89,7 +107,7 @@ impl BadName<'_, '_> {
                 "`{name}` is bound in line {line}, and isn't seen here: pass it as an argument"
             );
         }
-        push_declaration(out, self.role, name)
+        push_declaration(out, self.role, name, self.count)
     }
 
     /// Says how many arguments the name takes, and how many it has.

@@ -31,6 +31,17 @@ pub(crate) fn cure_of_foreign(role: Role, name: &[u8]) -> Option<&'static str> {
     }
 }
 
+/// What cures the name of a function that other languages have.
+pub(crate) fn cure_of_built_in(name: &[u8]) -> Option<&'static str> {
+    match name {
+        b"min" | b"max" => Some(
+            "no functions are built in: let a rule choose, as in `if x < y then z := x else z := y endif`",
+        ),
+        b"abs" => { Some("no functions are built in: compare twice, as in `-3 < x and x < 3`") }
+        _ => None,
+    }
+}
+
 fn cure_of_value(name: &[u8]) -> Option<&'static str> {
     if is_same_in_lower_case(name, b"true") {
         return Some("write `true`, in small letters");
@@ -88,6 +99,7 @@ fn cure_of_command(name: &[u8]) -> Option<&'static str> {
             Some("nothing is printed: the trace shows each update, so assign to a function")
         }
         b"return" => Some("a rule returns a value by `result := t`, and is called by `x <- R`"),
+        b"next" => Some("nothing stands between the rules of a `seq`: leave it out"),
         b"call" => Some("a call is the name of the rule with its arguments, as in `R(x)`"),
         b"assert" | b"assume" => {
             Some("a condition is checked by `asm-explore all --always COND`, and not in the text")
@@ -113,20 +125,30 @@ pub(crate) fn cure_of_other_kind(role: Role, meaning: Meaning) -> &'static str {
     }
 }
 
-/// Says how a name is declared that is to stand in this role.
-pub(crate) fn push_declaration(out: &mut String, role: Role, name: &str) -> Result<(), AllocError> {
+/// Says how a name is declared that is to stand in this role, with so many arguments.
+pub(crate) fn push_declaration(
+    out: &mut String,
+    role: Role,
+    name: &str,
+    count: usize,
+) -> Result<(), AllocError> {
+    let (domain, parameters) = (domain(count), parameters(count));
     match role {
         Role::Target => write!(
             out,
-            "no function has nearly this name: declare it, as in `function controlled {name} initially 0`"
+            "no function has nearly this name: declare it, as in `function controlled {name}{domain} initially 0`"
+        ),
+        Role::Term if count > 0 => write!(
+            out,
+            "no function has nearly this name, and none is built in: declare it, as in `function controlled {name}{domain} initially 0`"
         ),
         Role::Term => write!(
             out,
-            "no name that could stand here is nearly this: declare it, as in `function controlled {name} initially 0`, or bind it, as by `let` or `exists`"
+            "no name that could stand here is nearly this: declare it, as in `function controlled {name} initially 0`, add it to an enumeration, or bind it, as by `let` or `exists`"
         ),
         Role::Rule | Role::Answering => write!(
             out,
-            "no rule has nearly this name: declare it, as in `rule {name} = skip`"
+            "no rule has nearly this name: declare it, as in `rule {name}{parameters} = skip`"
         ),
         Role::Universe | Role::Codomain => write!(
             out,
@@ -136,5 +158,25 @@ pub(crate) fn push_declaration(out: &mut String, role: Role, name: &str) -> Resu
             out,
             "no element has nearly this name: declare it in an enumeration, as in `enum E = {{ {name} }}`"
         ),
+    }
+}
+
+/// What a declaration shows of the values of a function with so many arguments.
+fn domain(count: usize) -> &'static str {
+    match count {
+        0 => "",
+        1 => " : U -> NUMBER",
+        2 => " : U * U -> NUMBER",
+        _ => " : U * .. * U -> NUMBER",
+    }
+}
+
+/// The parameters that a declaration shows of a rule with so many.
+fn parameters(count: usize) -> &'static str {
+    match count {
+        0 => "",
+        1 => "(x)",
+        2 => "(x, y)",
+        _ => "(x, .., y)",
     }
 }

@@ -1,7 +1,8 @@
 //! What would cure a text that is refused.
-use crate::bad_bytes::{cure_of_byte, cure_of_number};
+use crate::bad_bytes::{cure_of_number, push_bad_byte};
 use crate::bad_names::BadName;
 use crate::bound_names::bound_elsewhere;
+use crate::comments::{COMMENT, ends_in_dashes};
 use crate::declaration_faults::{push_init, push_twice};
 use crate::known_names::KnownNames;
 use crate::place::Place;
@@ -57,6 +58,9 @@ fn push_of_reading(
     is_condition: bool,
 ) -> Result<(), AllocError> {
     match error {
+        ReadError::Lex(LexError::BadByte { at }) => {
+            push_bad_byte(alloc, out, text, at, is_condition)
+        }
         ReadError::Lex(error) => out.push_str(cure_of_bytes(text, error)),
         ReadError::Unexpected { at } => push_at(alloc, out, text, at, is_condition),
         ReadError::UnexpectedEnd => push_at(alloc, out, text, text.len(), is_condition),
@@ -64,15 +68,11 @@ fn push_of_reading(
     }
 }
 
-/// What cures bytes that are no tokens.
+/// What cures other bytes that are no tokens.
 fn cure_of_bytes(text: &[u8], error: LexError) -> &'static str {
     match error {
-        LexError::BadByte { at } => {
-            let (before, rest) = text.split_at(at.min(text.len()));
-            cure_of_byte(before, rest)
-        }
         LexError::BadNumber { at } => cure_of_number(text.split_at(at.min(text.len())).1),
-        LexError::TooLong | LexError::OpenComment { .. } => "",
+        LexError::BadByte { .. } | LexError::TooLong | LexError::OpenComment { .. } => "",
     }
 }
 
@@ -170,6 +170,9 @@ fn push_of_use(
     let Some(Use { role, count }) = search.found else {
         return Ok(());
     };
+    if ends_in_dashes(text.split_at(error.at.min(text.len())).0) {
+        return out.push_str(COMMENT);
+    }
     let bad = BadName {
         known,
         text,

@@ -3,8 +3,10 @@
 
 mod bad_bytes;
 mod bad_names;
+mod bare_names;
 mod bound_names;
 mod candidates;
+mod comments;
 mod declaration_faults;
 mod declarations;
 mod foreign_names;
@@ -13,6 +15,7 @@ mod known_names;
 mod near;
 mod open_blocks;
 mod place;
+mod reserved;
 mod sentence;
 mod symbol_habits;
 mod token_habits;

@@ -103,6 +103,27 @@ impl<'t> Place<'t> {
         }
     }
 
+    /// Whether the token that is refused stands in the line of the one before.
+    pub(crate) fn is_in_line(&self) -> bool {
+        self.is_one_line(self.back(1), self.ahead(0))
+    }
+
+    /// Whether the token behind the one that is refused stands in its line.
+    pub(crate) fn is_next_in_line(&self) -> bool {
+        self.is_one_line(self.ahead(0), self.ahead(1))
+    }
+
+    /// Whether no line ends between two tokens.
+    fn is_one_line(&self, first: Option<Token>, second: Option<Token>) -> bool {
+        match (first, second) {
+            (Some(first), Some(second)) => {
+                let between = self.text.get(first.end..second.start).unwrap_or(&[]);
+                !between.iter().any(|byte| *byte == b'\n')
+            }
+            _ => false,
+        }
+    }
+
     /// The item in which the place is: the tokens from its first word on.
     pub(crate) fn item(&self) -> &'t [Token] {
         let behind = self
@@ -148,6 +169,56 @@ impl<'t> Place<'t> {
             is_next = is_declaring(token.kind);
         }
         is_declared
+    }
+
+    /// Whether the text declares a function or a rule with arguments by this name.
+    pub(crate) fn takes_arguments(&self, name: &[u8]) -> bool {
+        self.is_with_arguments(self.before, name) || self.is_with_arguments(self.rest, name)
+    }
+
+    /// Whether these tokens declare a function or a rule with arguments by this name.
+    fn is_with_arguments(&self, tokens: &[Token], name: &[u8]) -> bool {
+        let (mut is_next, mut is_named, mut is_colon) = (false, false, false);
+        for token in tokens {
+            if is_colon && token.kind != Kind::Symbol(Symbol::Arrow) {
+                return true;
+            }
+            if is_named && token.kind == Kind::Symbol(Symbol::Open) {
+                return true;
+            }
+            is_colon = is_named && token.kind == Kind::Symbol(Symbol::Colon);
+            is_named = is_next && self.bytes(*token) == name;
+            is_next = is_declaring(token.kind);
+        }
+        false
+    }
+
+    /// Whether the token before the place is a name that is declared there.
+    pub(crate) fn is_behind_declared(&self) -> bool {
+        match (self.back(2), self.back(1)) {
+            (Some(word), Some(token)) => {
+                token.kind == Kind::Name
+                    && (is_declaring(word.kind) || self.has_word_in_item(Keyword::Enum))
+            }
+            _ => false,
+        }
+    }
+
+    /// Whether an `and` stands before the place behind an assignment, in the same rule.
+    pub(crate) fn has_assignment_before_and(&self) -> bool {
+        let mut is_assigned = false;
+        let mut is_joined = false;
+        for token in self.before {
+            if token.kind == Kind::Keyword(Keyword::And) {
+                is_joined = is_assigned;
+            } else if token.kind == Kind::Symbol(Symbol::Assign) {
+                is_assigned = true;
+            } else if begins_part(token.kind) {
+                is_assigned = false;
+                is_joined = false;
+            }
+        }
+        is_joined
     }
 
     /// The bytes of a token.
@@ -206,4 +277,24 @@ fn is_declaring(kind: Kind) -> bool {
                 | Keyword::Rule
         )
     )
+}
+
+/// Whether this is a reserved word that no term has outside of parentheses, so that another part
+/// begins behind it.
+fn begins_part(kind: Kind) -> bool {
+    match kind {
+        Kind::Keyword(word) => !matches!(
+            word,
+            Keyword::And
+                | Keyword::Or
+                | Keyword::Not
+                | Keyword::Div
+                | Keyword::Mod
+                | Keyword::True
+                | Keyword::False
+                | Keyword::Undef
+                | Keyword::Result
+        ),
+        _ => false,
+    }
 }

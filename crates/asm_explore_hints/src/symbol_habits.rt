@@ -1,5 +1,6 @@
 //! What habit writes with a symbol, and what to write instead.
 use crate::candidates::Candidates;
+use crate::comments::COMMENT;
 use crate::place::Place;
 use asm_syntax::{Keyword, Kind, Symbol};
 
@@ -19,6 +20,18 @@ const INITIALLY: &str =
 
 pub(crate) const CONSTANT: &str =
     "behind `initially` stands one constant: a number, `true`, `false`, `undef`, an element, or a table";
+
+pub(crate) const ENDS: &str =
+    "the ends of a universe are numbers, as in `universe Floor = 0 .. 3`: names and terms can't stand there";
+
+pub(crate) const CONTROLLED: &str =
+    "`function` stands before `controlled` and `static`, as in `function controlled x`";
+
+pub(crate) const ALWAYS: &str =
+    "`--always` asks a condition of each state: write it alone, as in `--always 'x < 3'`";
+
+pub(crate) const NO_AND: &str =
+    "no `and` stands between rules: group them by `par` and `endpar`, or by `seq` and `endseq`";
 
 const BRACES: &str =
     "rules are grouped by `par` and `endpar`, which act at once, or by `seq` and `endseq`";
@@ -42,11 +55,12 @@ pub(crate) fn cure_of_symbol(
         Symbol::AtMost if is_before_greater(place) => Some(IFF),
         Symbol::NotEqual | Symbol::AtMost | Symbol::AtLeast => cure_of_chain(next),
         Symbol::Colon => cure_of_colon(place, next),
-        Symbol::Assign => cure_of_assign(next),
+        Symbol::Assign => cure_of_assign(place, next),
         Symbol::Arrow => cure_of_arrow(next),
         Symbol::Comma => cure_of_comma(place, next),
         Symbol::Open => cure_of_open(place, next),
         Symbol::OpenBrace => cure_of_brace(place, next),
+        Symbol::Minus if is_dashes(place) => Some(COMMENT),
         Symbol::Plus | Symbol::Minus | Symbol::Times => cure_of_sum(place, next),
         Symbol::LeftArrow if next.operator => {
             Some("`<-` is one symbol: in `a < -1` there is a space between `<` and `-`")
@@ -61,6 +75,9 @@ fn cure_of_equal(place: &Place<'_>, next: &Candidates) -> Option<&'static str> {
     }
     if next.has("`:=`") {
         return Some(ASSIGN);
+    }
+    if is_before_greater(place) && next.has("`->`") {
+        return Some("write `->`");
     }
     if next.has("`initially`") {
         return Some(INITIALLY);
@@ -106,12 +123,15 @@ fn cure_of_chain(next: &Candidates) -> Option<&'static str> {
     if next.operator { Some(CHAIN) } else { None }
 }
 
-fn cure_of_assign(next: &Candidates) -> Option<&'static str> {
+fn cure_of_assign(place: &Place<'_>, next: &Candidates) -> Option<&'static str> {
     if next.equal {
         return Some("here stands `=`: `:=` is for assignments alone");
     }
     if next.has("`initially`") {
         return Some(INITIALLY);
+    }
+    if next.operator && place.has_assignment_before_and() {
+        return Some(NO_AND);
     }
     if next.operator {
         return Some("in a term `=` compares: `:=` is for assignments alone");
@@ -199,5 +219,24 @@ fn cure_of_sum(place: &Place<'_>, next: &Candidates) -> Option<&'static str> {
     if place.has_word_back(2, Keyword::Initially) {
         return Some(CONSTANT);
     }
+    cure_of_ends(place, next)
+}
+
+/// What cures an operator behind the ends of a universe.
+pub(crate) fn cure_of_ends(place: &Place<'_>, next: &Candidates) -> Option<&'static str> {
+    if next.declaration && place.is_in_line() && place.has_word_in_item(Keyword::Universe) {
+        return Some(ENDS);
+    }
     None
+}
+
+/// Whether two minus signs stand at the place, behind a space.
+fn is_dashes(place: &Place<'_>) -> bool {
+    match (place.ahead(0), place.ahead(1)) {
+        (Some(token), Some(behind)) => {
+            let is_double = behind.kind == Kind::Symbol(Symbol::Minus);
+            is_double && token.end == behind.start && !place.is_joined()
+        }
+        _ => false,
+    }
 }

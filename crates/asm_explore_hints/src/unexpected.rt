@@ -1,11 +1,17 @@
 //! What cures a token that can't stand where it does, or a text that ends too early.
+use crate::bare_names::{push_bare_argument, push_name_with_minus};
 use crate::candidates::Candidates;
+use crate::comments::{COMMENT, ends_in_dashes};
 use crate::open_blocks::{is_end_word, open_blocks};
 use crate::place::Place;
+use crate::reserved::push_reserved;
 use crate::sentence::{push_list, shown};
-use crate::symbol_habits::cure_of_symbol;
-use crate::token_habits::{cure_of_end, cure_of_name, cure_of_number, is_second_rule};
-use crate::word_habits::{cure_of_word, push_misspelt, push_reserved};
+use crate::symbol_habits::{ALWAYS, cure_of_symbol};
+use crate::token_habits::{
+    cure_of_end, cure_of_name, cure_of_number, is_behind_temporal_word, is_empty_rule,
+    is_second_rule,
+};
+use crate::word_habits::{cure_of_word, push_misspelt};
 use asm_explore_texts::position::Position;
 use asm_syntax::{Kind, Symbol};
 use std::alloc::{AllocError, Global};
@@ -16,6 +22,12 @@ pub(crate) fn push_unexpected(
     out: &mut String,
     place: &Place<'_>,
 ) -> Result<(), AllocError> {
+    if ends_in_dashes(place.beginning()) {
+        return out.push_str(COMMENT);
+    }
+    if is_behind_temporal_word(place) {
+        return out.push_str(ALWAYS);
+    }
     let next = Candidates::at(alloc, place)?;
     if let Some(cure) = cure(place, &next) {
         return out.push_str(cure);
@@ -54,10 +66,13 @@ fn push_named(
         )?;
         return Ok(true);
     }
-    if push_reserved(out, place, next)? {
+    if push_reserved(out, place, next)? || push_name_with_minus(out, place)? {
         return Ok(true);
     }
-    if push_needless_end(alloc, out, place)? {
+    if push_needless_end(alloc, out, place)? || push_needless_close(alloc, out, place)? {
+        return Ok(true);
+    }
+    if push_bare_argument(out, place)? {
         return Ok(true);
     }
     push_misspelt(out, place, next)
@@ -87,6 +102,24 @@ fn push_needless_end(
     Ok(true)
 }
 
+/// Says that a `)` closes nothing, if no `(` is open. Returns whether it is so.
+fn push_needless_close(
+    alloc: Global,
+    out: &mut String,
+    place: &Place<'_>,
+) -> Result<bool, AllocError> {
+    if !place.has_symbol(Symbol::Close) || !place.is_in_line() {
+        return Ok(false);
+    }
+    let open = open_blocks(alloc, place.before)?;
+    let parenthesis = Kind::Symbol(Symbol::Open);
+    if open.iter().any(|token| token.kind == parenthesis) {
+        return Ok(false);
+    }
+    out.push_str("`)` can't stand here: no `(` is open that it could close: leave it out")?;
+    Ok(true)
+}
+
 /// Says what is open at the place, and what could stand there.
 fn push_candidates(
     alloc: Global,
@@ -107,6 +140,9 @@ fn push_candidates(
         out.push_str(
             "; several rules stand between `par` and `endpar`, or between `seq` and `endseq`",
         )?;
+    }
+    if is_empty_rule(place, next) {
+        out.push_str("; `skip` does nothing")?;
     }
     Ok(())
 }

@@ -1,14 +1,20 @@
 //! What habit writes with reserved words, and what to write instead.
 use crate::candidates::Candidates;
 use crate::near::{distance, is_same_in_lower_case};
-use crate::open_blocks::is_end_word;
 use crate::place::Place;
 use crate::sentence::shown;
-use crate::symbol_habits::{CONSTANT, PARAMETER, is_in_parameters};
-use crate::token_habits::cure_of_any;
+use crate::symbol_habits::{
+    CONSTANT, CONTROLLED, NO_AND, PARAMETER, cure_of_ends, is_in_parameters,
+};
+use crate::token_habits::{cure_of_any, is_behind_rule};
 use asm_explore_texts::position::Position;
-use asm_syntax::{Keyword, Kind, Token};
+use asm_syntax::{Keyword, Kind, Symbol};
 use std::alloc::AllocError;
+
+const DERIVED: &str = "leave `function` out, as in `derived isFull = count >= 3`";
+
+const COUNT: &str =
+    "nothing is counted: at most one `x` of `U` has `c` if `(forall x in U holds (forall y in U holds x = y or not (c(x) and c(y))))`";
 
 /// The reserved words that are often misspelt, in small letters.
 static WORDS: [&str; 34] = [
@@ -57,16 +63,21 @@ pub(crate) fn cure_of_word(
     place: &Place<'_>,
     next: &Candidates,
 ) -> Option<&'static str> {
+    if word == Keyword::Derived && place.has_word_back(1, Keyword::Function) {
+        return Some(DERIVED);
+    }
     if let Some(cure) = cure_of_any(place, next) {
         return Some(cure);
     }
     match word {
+        Keyword::Controlled | Keyword::Static if next.declaration => Some(CONTROLLED),
+        Keyword::And if is_behind_rule(next) && place.is_in_rule() => Some(NO_AND),
+        Keyword::Div | Keyword::Mod => cure_of_ends(place, next),
         Keyword::With | Keyword::Holds | Keyword::Do => cure_of_binder(word, next),
         Keyword::In if is_in_parameters(place, next) => Some(PARAMETER),
         Keyword::Not if next.constant => Some(CONSTANT),
-        Keyword::Function if place.has_word_back(1, Keyword::Derived) => {
-            Some("leave `function` out, as in `derived isFull = count >= 3`")
-        }
+        Keyword::Not if next.term => Some("put it in parentheses: `(not c)`"),
+        Keyword::Function if place.has_word_back(1, Keyword::Derived) => { Some(DERIVED) }
         Keyword::Rule if place.has_word_back(1, Keyword::Init) => {
             Some("leave `rule` out, as in `init Main`")
         }
@@ -79,6 +90,7 @@ pub(crate) fn cure_of_word(
         Keyword::If if next.term => {
             Some("a term has no `if`: let a rule choose, `if c then x := 1 else x := 2 endif`")
         }
+        Keyword::In if next.operator && is_counted(place) => Some(COUNT),
         Keyword::In if next.operator => {
             Some("write `(exists y in U with y = x)` for `x` in the universe `U`")
         }
@@ -100,29 +112,13 @@ fn cure_of_binder(word: Keyword, next: &Candidates) -> Option<&'static str> {
     None
 }
 
-/// Says that a reserved word is no name, if one stands where only a name can. Returns whether it
-/// does.
-pub(crate) fn push_reserved(
-    out: &mut String,
-    place: &Place<'_>,
-    next: &Candidates,
-) -> Result<bool, AllocError> {
-    match place.ahead(0) {
-        Some(
-            Token {
-                kind: Kind::Keyword(word),
-                ..
-            },
-        ) if next.name && !is_end_word(word) => {
-            let word = shown(place.refused());
-            write!(
-                out,
-                "`{word}` is a reserved word, which can't be a name: write another, as `{word}_`"
-            )?;
-            Ok(true)
-        }
-        _ => Ok(false),
-    }
+/// Whether the place is behind the name with which a count or a sum begins.
+fn is_counted(place: &Place<'_>) -> bool {
+    place.has_symbol_back(2, Symbol::Open)
+        && matches!(
+            place.bytes_back(3),
+            b"count" | b"card" | b"size" | b"number" | b"sum"
+        )
 }
 
 /// Says which reserved word is meant by the token that is refused or one of the three before it, if

@@ -1,5 +1,5 @@
 //! What is printed of a run as a table.
-ghost use Rattle.std.specs.Prelude.{◌≡◌, ◌+◌, ◌≤◌, ◌×◌, All, false, true, List, IfErr, IfNone, IfOk, IfSome};
+ghost use Rattle.std.specs.Prelude.{◌≡◌, ◌+◌, ◌≤◌, All, false, true, List, IfErr, IfNone, IfOk, IfSome};
 ghost use Rattle.asm_syntax.specs.SourceTree.{Term as SourceTerm};
 ghost use Rattle.asm_syntax.specs.code.Views.{spec_of};
 ghost use Rattle.asm_reader.specs.ScriptText.{IsScript};
