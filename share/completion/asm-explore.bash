@@ -2,8 +2,8 @@
 # Made by share/man/make --write.
 _asm_explore_all_options=$'--steps\n--turns\n--always\n--always-file\n--deadlock-unless\n--within\n--states\n--outcomes\n--workers\n--dot\n--quiet\n--trace\n--progress\n--help\n--version'
 _asm_explore_random_options=$'--steps\n--turns\n--always\n--always-file\n--deadlock-unless\n--outcomes\n--runs\n--seed\n--trace\n--progress\n--help\n--version'
-_asm_explore_choices_options=$'--steps\n--turns\n--script\n--help\n--version'
-_asm_explore_clash_options=$'--steps\n--turns\n--script\n--help\n--version'
+_asm_explore_choices_options=$'--steps\n--turns\n--script\n--always\n--always-file\n--help\n--version'
+_asm_explore_clash_options=$'--steps\n--turns\n--script\n--always\n--always-file\n--help\n--version'
 _asm_explore_show_options=$'--steps\n--turns\n--script\n--always\n--always-file\n--only\n--width\n--help\n--version'
 _asm_explore_plain=$'--steps\n--turns\n--always\n--deadlock-unless\n--within\n--states\n--outcomes\n--workers\n--runs\n--seed\n--only\n--width'
 _asm_explore() {

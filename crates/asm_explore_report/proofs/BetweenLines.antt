@@ -46,13 +46,13 @@ entries_kept (entry ∷ entries) last =
     ∙ (ap (λ ls. kept (lines_of (bare line)) ++ ls) (entries_kept entries last)
     ∙ sym (line_first line (lines_text (said_by entries))))))
 
-pub commented_says : (first : List ℕ) (entries : List Entry) (last : List (List ℕ)) (text : List ℕ) → IsCommentedText first entries last text
+pub commented_says : (first : List ℕ) (behind : List (List ℕ)) (entries : List Entry) (last : List (List ℕ)) (text : List ℕ) → IsCommentedText first behind entries last text
     → (script : Script) → IsScript (lines_text (said_by entries)) script → IsScript text script ⊎ HasNoText first (said_by entries)
-commented_says first entries last text (inl (short, fits, inl is)) script said =
-    let whole = comments (first ∷ []) ++ commented entries last in
-    let same : kept (lines_of whole) ≡ kept (lines_of (lines_text (said_by entries))) = comments_kept (first ∷ []) (commented entries last) ∙ entries_kept entries last in
+commented_says first behind entries last text (inl (short, fits, inl is)) script said =
+    let whole = comments (first ∷ behind) ++ commented entries last in
+    let same : kept (lines_of whole) ≡ kept (lines_of (lines_text (said_by entries))) = comments_kept (first ∷ behind) (commented entries last) ∙ entries_kept entries last in
     inl (subst (λ t. IsScript t script) (sym is) (says_alike whole (lines_text (said_by entries)) script same (subst (λ t. length t ≤ max_script) is fits) said))
-commented_says first entries last text (inl (short, fits, inr (long, is))) script said =
+commented_says first behind entries last text (inl (short, fits, inr (long, is))) script said =
     let others = left_out (codes "the comments" ∷ []) in
     inl (subst (λ t. IsScript t script) (sym is) (comments_say (lines_text (said_by entries)) script said (first ∷ others) (subst (λ t. length t ≤ max_script) is fits)))
-commented_says first entries last text (inr (none, is)) script said = inr none
+commented_says first behind entries last text (inr (none, is)) script said = inr none

@@ -1,4 +1,5 @@
--- Definition. Texts of scripts with a first comment, and comments between their lines.
+-- Definition. Texts of scripts with a first comment, others behind it, and comments between their
+-- lines.
 --     entry_text entry                its comments, and its line after them
 --     entries_text entries            the texts of the entries, one after the other
 --     said_by entries                 what their lines say
@@ -48,10 +49,10 @@ abbrev pub IsWithoutScript : (first : List ℕ) → List Line → (text : List �
 IsWithoutScript first lines text = HasNoText first lines × (text ≡ without_script first)
 
 -- all of it, or the lines alone behind the first comment if all of it is too long
-abbrev pub IsCommentedScript : (first : List ℕ) → (entries : List Entry) → (last : List (List ℕ)) → (text : List ℕ) → Type 0
-IsCommentedScript first entries last text =
-    let whole = comments (first ∷ []) ++ commented entries last in
+abbrev pub IsCommentedScript : (first : List ℕ) → (behind : List (List ℕ)) → (entries : List Entry) → (last : List (List ℕ)) → (text : List ℕ) → Type 0
+IsCommentedScript first behind entries last text =
+    let whole = comments (first ∷ behind) ++ commented entries last in
     AreShort (numbers_in (said_by entries)) × (length text ≤ max_script) × ((text ≡ whole) ⊎ ((max_script < length whole) × (text ≡ script_alone first (lines_text (said_by entries)))))
 
-abbrev pub IsCommentedText : (first : List ℕ) → (entries : List Entry) → (last : List (List ℕ)) → (text : List ℕ) → Type 0
-IsCommentedText first entries last text = IsCommentedScript first entries last text ⊎ IsWithoutScript first (said_by entries) text
+abbrev pub IsCommentedText : (first : List ℕ) → (behind : List (List ℕ)) → (entries : List Entry) → (last : List (List ℕ)) → (text : List ℕ) → Type 0
+IsCommentedText first behind entries last text = IsCommentedScript first behind entries last text ⊎ IsWithoutScript first (said_by entries) text

@@ -8,9 +8,9 @@ ghost use Rattle.asm_explore.specs.WrittenScripts.{AreSteps, IsTextOf, IsTextRef
 ghost use Rattle.asm_explore_texts.specs.Comments.{comments as comments_of, lines_of};
 ghost use Rattle.asm_explore_report.specs.Commented.{HasNoText, IsCommentedText, commented, entry_text, said_by, script_alone, without_script};
 
-use asm_explore_texts::comment::{add_comments, comments};
 use crate::printed::{Part, fits, left_out, text_behind_first};
 use asm_explore::{ScriptLine, WritingError, Zeros, script_text};
+use asm_explore_texts::comment::{add_comments, comments};
 use asm_reader::MAX_SCRIPT;
 use asm_syntax::InputError;
 use std::alloc::{AllocError, Global};
@@ -62,20 +62,21 @@ fn lines_alone(alloc: Global, entries: &[Entry<'_>]) -> Result<String, InputErro
     script_text(alloc, lines.as_slice(), Zeros::Written)
 }
 
-/// A first comment, the lines with the comments before them, and the last comments, unless that is
-/// more than a script may have.
+/// A first comment, others behind it, the lines with the comments before them, and the last
+/// comments, unless that is more than a script may have.
 fn with_comments(
     alloc: Global,
     first: &[u8],
+    behind: &[Vec<u8>],
     entries: &[Entry<'_>],
     last: &[Vec<u8>],
 ) -> Result<Option<Vec<u8>>, InputError<WritingError>>
-    ensures text { IfOk result (λ whole. IfSome whole (λ text. text.items ≡ comments_of (first.now ∷ []) ++ commented entries.now (lines_of last.now))) }
+    ensures text { IfOk result (λ whole. IfSome whole (λ text. text.items ≡ comments_of (first.now ∷ lines_of behind.now) ++ commented entries.now (lines_of last.now))) }
     ensures fits { IfOk result (λ whole. IfSome whole (λ text. length text.items ≤ max_script)) }
-    ensures long { IfOk result (λ whole. IfNone whole (max_script < length (comments_of (first.now ∷ []) ++ commented entries.now (lines_of last.now)))) }
+    ensures long { IfOk result (λ whole. IfNone whole (max_script < length (comments_of (first.now ∷ lines_of behind.now) ++ commented entries.now (lines_of last.now)))) }
     ensures refused { IfErr result (IsTextRefusal (numbers_in (said_by entries.now)) (lines_text (said_by entries.now))) }
 {
-    let mut text = comments(alloc, first, &[])?;
+    let mut text = comments(alloc, first, behind)?;
     for i in 0..entries.len() {
         add_entry(alloc, &mut text, &entries[i])?;
         if text.len() > MAX_SCRIPT {
@@ -105,20 +106,21 @@ pub fn first_alone(alloc: Global, first: &[u8]) -> Result<Vec<u8>, AllocError>
     comments(alloc, first, line.as_slice())
 }
 
-/// The text of a script with a first comment, these lines, and comments; or what of it is no longer
-/// than a script may be. `alone` is the text of the lines.
+/// The text of a script with a first comment, others behind it, these lines, and comments; or what
+/// of it is no longer than a script may be. `alone` is the text of the lines.
 fn longest(
     alloc: Global,
     first: &[u8],
+    behind: &[Vec<u8>],
     entries: &[Entry<'_>],
     last: &[Vec<u8>],
     alone: &[u8],
 ) -> Result<Vec<u8>, InputError<WritingError>>
     requires { IsTextOf (said_by entries.now) alone.now }
-    ensures text { IfOk result (λ text. IsCommentedText first.now entries.now (lines_of last.now) text.items) }
+    ensures text { IfOk result (λ text. IsCommentedText first.now (lines_of behind.now) entries.now (lines_of last.now) text.items) }
     ensures refused { IfErr result (IsTextRefusal (numbers_in (said_by entries.now)) (lines_text (said_by entries.now))) }
 {
-    if let Some(whole) = with_comments(alloc, first, entries, last)? {
+    if let Some(whole) = with_comments(alloc, first, behind, entries, last)? {
         return Ok(whole);
     }
     let bare = without_comments(alloc, first, alone)?;
@@ -129,16 +131,17 @@ fn longest(
     Ok(first_alone(alloc, first)?)
 }
 
-/// The text of a script with a first comment, these lines, and comments between and after them; or
-/// the longest text that leaves out as little as a script's length asks for. Where the lines can't
-/// be written, the first comment says so, and there is no script.
+/// The text of a script with a first comment, others behind it, these lines, and comments between
+/// and after them; or the longest text that leaves out as little as a script's length asks for.
+/// Where the lines can't be written, the first comment says so, and there is no script.
 pub fn commented_script(
     alloc: Global,
     first: &[u8],
+    behind: &[Vec<u8>],
     entries: &[Entry<'_>],
     last: &[Vec<u8>],
 ) -> Result<Vec<u8>, AllocError>
-    ensures text { IfOk result (λ text. IsCommentedText first.now entries.now (lines_of last.now) text.items) }
+    ensures text { IfOk result (λ text. IsCommentedText first.now (lines_of behind.now) entries.now (lines_of last.now) text.items) }
     ensures says { IfOk result (λ text. AreSteps (said_by entries.now) → IsUnrepeated (exactly (said_by entries.now)) →
         IsScript text.items (exactly (said_by entries.now)) ⊎ HasNoText first.now (said_by entries.now)) }
 {
@@ -147,7 +150,7 @@ pub fn commented_script(
         Err(InputError::Memory) => return Err(AllocError),
         Err(InputError::Named(_)) => return first_alone(alloc, first),
     };
-    match longest(alloc, first, entries, last, alone.as_bytes()) {
+    match longest(alloc, first, behind, entries, last, alone.as_bytes()) {
         Ok(text) => Ok(text),
         Err(InputError::Memory) => Err(AllocError),
         Err(InputError::Named(_)) => first_alone(alloc, first),

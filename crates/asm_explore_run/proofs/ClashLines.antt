@@ -5,7 +5,7 @@
 --     lines_more    a line after those of assignments
 --     as_many       there are as many lines as assignments
 --     lines_long, too_many     each comment has 15 bytes at least, so that many don't fit
-use Rattle.std.proofs.Common.{◌≡◌, ◌∙◌, ◌*◌, ◌<◌, ◌≤◌, ℕ, zero, suc, Some, get_or, List, [], ◌∷◌, ◌++◌, length, codes, inl, inr, refl, sym, ap, append-nil, length-append, arith}
+use Rattle.std.proofs.Common.{◌≡◌, ◌∙◌, ◌+◌, ◌*◌, ◌<◌, ◌≤◌, ℕ, zero, suc, Some, get_or, List, [], ◌∷◌, ◌++◌, length, codes, inl, inr, refl, sym, ap, append-nil, length-append, arith}
 use Rattle.std.specs.Prelude.{◌⊎◌, slice_get}
 use Rattle.asm_reader.specs.ScriptText.{max_script}
 use Rattle.std.proofs.lemmas.Grind.{flat_map-append}
@@ -27,6 +27,10 @@ pub found_at : (found : List Assignment) (i : ℕ) (a : Assignment) → i < leng
 found_at [] i a low is = absurd (omega (arith, low))
 found_at (x ∷ found) zero a low is = ap Some (sym is)
 found_at (x ∷ found) (suc i) a low is = found_at found i a (omega (arith, low)) is
+
+comment_longer : (line : List ℕ) → 1 ≤ length line → 3 + length line ≤ length (comment line)
+comment_longer [] some = absurd (omega (arith, some))
+comment_longer (byte ∷ line) some = omega (arith, length-append (in_one_line (byte ∷ line)) (10 ∷ []), length-map (byte ∷ line) shown)
 
 module _ (text : List ℕ) (names : TraceNames) (end : End) where
   pub as_many : (found : List Assignment) (lines : List (List ℕ)) → AreLinesOf text names end found lines → length found ≡ length lines
@@ -59,7 +63,7 @@ module _ (text : List ℕ) (names : TraceNames) (end : End) where
   line_long a line (inr is) = let whole : length line ≡ length (assignment_text names (located names end a.arguments.items) a) = ap length is in omega (arith, whole, said_long a)
 
   comment_long : (a : Assignment) (line : List ℕ) → IsLineOf text names end a line → 15 ≤ length (comment line)
-  comment_long a line is = omega (arith, line_long a line is, length-append (in_one_line line) (10 ∷ []), length-map line shown)
+  comment_long a line is = let long = line_long a line is in omega (arith, long, comment_longer line (omega (arith, long)))
 
   pub lines_long : (found : List Assignment) (lines : List (List ℕ)) → AreLinesOf text names end found lines → 15 * length lines ≤ length (comments lines)
   lines_long [] [] are = omega arith

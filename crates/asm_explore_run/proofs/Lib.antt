@@ -1,7 +1,9 @@
 mod BoundNames
 mod ChoiceEntries
 mod ClashLines
+mod FirstBroken
 mod KeySets
+mod MoreLines
 mod RunStatuses
 mod ShortLines
 mod UnmetTexts

@@ -16,8 +16,8 @@
 --     IsChooseLine asking line     the comment for a choice: that, and its candidates, of which
 --                                  that with the number in the choice is taken
 --     IsEntryOf, AreEntriesOf      the lines of choices, each with such a comment before it
---     IsChoicesText                a first comment, these lines with their comments, and the last
---                                  comments; or what of it fits
+--     IsChoicesText                a first comment, others behind it, these lines with their
+--                                  comments, and the last comments; or what of it fits
 use Rattle.std.specs.Prelude.{◌≡◌, ◌⊎◌, ◌-◌, ◌==◌, ℕ, zero, suc, nat_lt, cond, Option, None, Some, List, [], ◌∷◌, ◌++◌, length, slice_get, take, codes, decimal}
 use Rattle.std.specs.List.{enumerate_from, flat_map, join_by}
 use Rattle.asm_reader.specs.ScriptLines.{Line}
@@ -85,7 +85,7 @@ module _ (text : List ℕ) (names : TraceNames) where
   AreEntriesOf asked entries = ⊥
 
   -- what was asked in each step, the lines for the choices that were made, and the last comments
-  abbrev pub IsChoicesText : (first : List ℕ) → List (List Asking) → List Line → (last : List (List ℕ)) → (printed : List ℕ) → Type 0
-  IsChoicesText first asked lines last printed =
-      ((entries : List Entry) × (said_by entries ≡ lines) × AreEntriesOf (flat_map (λ step. step) asked) entries × IsCommentedText first entries last printed)
+  abbrev pub IsChoicesText : (first : List ℕ) → (behind : List (List ℕ)) → List (List Asking) → List Line → (last : List (List ℕ)) → (printed : List ℕ) → Type 0
+  IsChoicesText first behind asked lines last printed =
+      ((entries : List Entry) × (said_by entries ≡ lines) × AreEntriesOf (flat_map (λ step. step) asked) entries × IsCommentedText first behind entries last printed)
       ⊎ IsWithoutScript first lines printed

@@ -1,3 +1,4 @@
+pub mod AskedRun
 pub mod ChoicesText
 pub mod ClashText
 pub mod RunReport

@@ -1,41 +1,42 @@
 -- Definition. What is printed of one run.
---     status_of_end end               1 if the run ends before its limit, and else 0
---     choices_status end unmet        the same, but 6 instead of 0 if there are unmet lines
---     IsPrintedOf Tells               a first comment that tells this, and a script with comments
---                                     between its lines
---     AreChoicesReported              what is printed is how the run ends, in a comment, and a
---                                     script with a line for each choice of the run, under which
---                                     the run is the same, each behind a comment with its
---                                     candidates; and comments for the lines of the given script
---                                     that name no choice of the run. Where that has no text, it
---                                     is the first comment
+--     run_asked tree settings script  the run that settings ask for
 --     assignments_in, count_in        the first assignments by which a run ends, if it has such, and
 --                                     how many there are
---     IsClashReported                 comments: how the run ends, and one for each assignment by
---                                     which it does, as many as fit into a script
+--     AreChoicesReported              what is printed is how the run ends, in comments, and a script
+--                                     with a line for each choice that it makes up to there, under
+--                                     which the run is the same up to there, each behind a comment
+--                                     with its candidates; and comments for the lines of the given
+--                                     script that name no choice of the run. Where that has no text,
+--                                     it is the first comment
+--     IsBrokenClash, IsWholeClash     comments: which condition isn't true for the first time, and
+--                                     why; or how the run ends, and one for each assignment by which
+--                                     it does, as many as fit into a script
+--     IsClashReported                 what is printed is the one or the other
 --     ExplainsRun                     why there is no report: a text is refused, memory ran out, or
 --                                     the run of texts that aren't is refused
-use Rattle.std.specs.Prelude.{◌≡◌, ◌⊎◌, ℕ, List, [], ◌∷◌, ⊤}
-use Rattle.asm_syntax.specs.SourceTree.{Spec}
+use Rattle.std.specs.Prelude.{◌≡◌, ◌⊎◌, ℕ, Bool, List, [], ◌∷◌, ⊤}
+use Rattle.asm_syntax.specs.SourceTree.{Spec, Term}
 use Rattle.asm_reader.specs.ExactLines.{exactly}
-use Rattle.asm_reader.specs.ScriptLines.{Line, Script}
+use Rattle.asm_reader.specs.ScriptLines.{Script}
 use Rattle.asm_reader.specs.ScriptText.{IsScript}
-use Rattle.asm_meaning.specs.Scripts.{IsUnrepeated}
 use Rattle.asm_meaning.specs.Declarations.{specification_of}
-use Rattle.asm_meaning.specs.Run.{AtExhausted, AtFault, AtLimit, End, Run, run}
+use Rattle.asm_meaning.specs.Run.{Run, run}
 use Rattle.asm_explore.specs.ChoicePoints.{Asking}
-use Rattle.asm_explore.specs.RunChoices.{AreAsked, AreChoices, lines_forward}
+use Rattle.asm_explore.specs.RunChoices.{AreAsked, AreChoices, MakesTheRun, lines_forward}
 use Rattle.asm_explore.specs.declared.outcomes.listed_outcome.Choice.{Choice}
 use Rattle.asm_run.specs.Headline.{IsAccepted, IsReturned}
 use Rattle.asm_run.specs.Written.{names_in}
-use Rattle.asm_run.specs.Trace.{TraceNames}
 use Rattle.asm_run.specs.declared.end.End as shown
 use Rattle.asm_clash.specs.ClashOfRun.{EndsSo}
 use Rattle.asm_clash.specs.declared.assignment.Assignment.{Assignment}
 use Rattle.asm_clash.specs.declared.clash.ClashOfRun.{ClashOfRun}
 use Rattle.asm_clash.specs.declared.clash.ClashOfRun.TheVariants as clash
+use Rattle.asm_explore_texts.specs.Comments.{comments}
+use Rattle.asm_explore_texts.specs.Conditions.{AreAskedOf, texts_of}
+use Rattle.asm_explore_texts.specs.RefusedTexts.{IsOneRefused}
+use Rattle.asm_explore_texts.specs.declared.conditions.Condition.{Condition}
 use Rattle.asm_explore_report.specs.Commented.{HasNoText}
-use Rattle.asm_explore_report.specs.EndWords.{IsRunLine}
+use Rattle.asm_explore_run.specs.AskedRun.{IsAskedEnd, IsBrokenRun, IsWholeRun, is_fault, run_status}
 use Rattle.asm_explore_run.specs.ChoicesText.{IsChoicesText}
 use Rattle.asm_explore_run.specs.ClashText.{IsClashText, greatest_shown}
 use Rattle.asm_explore_run.specs.UnmetLines.{unmet_lines}
@@ -45,23 +46,8 @@ use Rattle.asm_explore_words.specs.declared.fault.Fault.{Fault}
 use Rattle.asm_explore_words.specs.declared.fault.Fault.TheVariants as fault
 use Rattle.asm_explore_words.specs.declared.settings.RunSettings.{RunSettings}
 
--- the run that settings ask for
 abbrev pub run_asked : Spec → RunSettings → Script → Run
 run_asked tree settings script = run (specification_of tree) settings.turns script settings.steps
-
--- ---- statuses
-
--- of a run that ends so, with what is said of the unmet lines of its script
-abbrev pub choices_status : End → (unmet : List (List ℕ)) → ℕ
-choices_status AtLimit [] = 0
-choices_status AtLimit (line ∷ more) = 6
-choices_status (AtExhausted step q) unmet = 1
-choices_status (AtFault step U) unmet = 1
-
-abbrev pub status_of_end : End → ℕ
-status_of_end AtLimit = 0
-status_of_end (AtExhausted step q) = 1
-status_of_end (AtFault step U) = 1
 
 -- ---- what is printed
 
@@ -75,51 +61,65 @@ count_in clash.Limit = 0
 count_in (clash.Exhausted step q) = 0
 count_in (clash.Faulty step fault found count) = count
 
--- a first comment that tells this, and it spells the script, unless that has no text
-pub record IsPrintedOf (text : List ℕ) (names : TraceNames) (Tells : List ℕ → Type 0) (asked : List (List Asking)) (lines : List Line) (unmet : List (List ℕ)) (printed : List ℕ) : Type 0 where
-  pub first : List ℕ
-  pub tells : Tells first
-  pub is : IsChoicesText text names first asked lines unmet printed
-  pub says : IsUnrepeated (exactly lines) → IsScript printed (exactly lines) ⊎ HasNoText first lines
+module _ (tree : Spec) (terms : List Term) (script : Script) (settings : RunSettings) (report : Report) where
+  pub record IsBrokenClash : Type 0 where
+    pub first : List ℕ
+    pub because : List (List ℕ)
+    pub made : ℕ
+    pub broken : IsBrokenRun tree terms settings.turns script settings.steps first because made
+    pub printed : report.text.items ≡ comments (first ∷ because)
+    pub status : report.status ≡ 1
 
-module _ (text script_text : List ℕ) (settings : RunSettings) (report : Report) where
+  pub record IsWholeClash (text : List ℕ) : Type 0 where
+    pub first : List ℕ
+    pub whole : IsWholeRun tree terms settings.turns script settings.steps first []
+    pub clash : ClashOfRun
+    pub ends : EndsSo tree settings.turns script greatest_shown (run_asked tree settings script) clash
+    pub end : shown.End
+    pub answered : IsReturned (run_asked tree settings script).end end
+    pub printed : IsClashText text (names_in tree) end first (assignments_in clash) (count_in clash) report.text.items
+    pub status : report.status ≡ run_status (is_fault (run_asked tree settings script).end) []
+
+module _ (text script_text : List ℕ) (conditions : List Condition) (settings : RunSettings) (report : Report) where
   pub record AreChoicesReported : Type 0 where
     pub tree : Spec
     pub accepted : IsAccepted text tree
     pub script : Script
     pub spelled : IsScript script_text script
+    pub terms : List Term
+    pub are_terms : AreAskedOf tree (texts_of conditions) terms
+    -- the comments at its head, and up to how many steps the run is looked at
+    pub first : List ℕ
+    pub because : List (List ℕ)
+    pub limit : ℕ
+    pub is_fault : Bool
+    pub is_end : IsAskedEnd tree terms settings.turns script settings.steps first because limit is_fault
     pub steps : List (List Choice)
-    pub choices : AreChoices tree settings.turns script settings.steps steps
+    pub choices : AreChoices tree settings.turns script limit steps
     pub asked : List (List Asking)
-    pub are_asked : AreAsked tree settings.turns script settings.steps asked
+    pub are_asked : AreAsked tree settings.turns script limit asked
+    pub again : MakesTheRun (specification_of tree) settings.turns script limit (lines_forward steps)
     pub printed :
-        let names = names_in tree in
         let made = lines_forward steps in
-        let tells = IsRunLine names settings.steps (run_asked tree settings script).end in
-        IsPrintedOf text names tells asked made (unmet_lines script_text made) report.text.items
-    pub apart : IsUnrepeated (exactly (lines_forward steps))
-    pub again : run_asked tree settings (exactly (lines_forward steps)) ≡ run_asked tree settings script
-    pub status : report.status ≡ choices_status (run_asked tree settings script).end (unmet_lines script_text (lines_forward steps))
+        IsChoicesText text (names_in tree) first because asked made (unmet_lines script_text made) report.text.items
+    pub says : IsScript report.text.items (exactly (lines_forward steps)) ⊎ HasNoText first (lines_forward steps)
+    pub status : report.status ≡ run_status is_fault (unmet_lines script_text (lines_forward steps))
 
   pub record IsClashReported : Type 0 where
     pub tree : Spec
     pub accepted : IsAccepted text tree
     pub script : Script
     pub spelled : IsScript script_text script
-    pub clash : ClashOfRun
-    pub ends : EndsSo tree settings.turns script greatest_shown (run_asked tree settings script) clash
-    pub end : shown.End
-    pub answered : IsReturned (run_asked tree settings script).end end
-    pub first : List ℕ
-    pub tells : IsRunLine (names_in tree) settings.steps (run_asked tree settings script).end first
-    pub printed : IsClashText text (names_in tree) end first (assignments_in clash) (count_in clash) report.text.items
-    pub status : report.status ≡ status_of_end (run_asked tree settings script).end
+    pub terms : List Term
+    pub are_terms : AreAskedOf tree (texts_of conditions) terms
+    pub reported : IsBrokenClash tree terms script settings report ⊎ IsWholeClash tree terms script settings report text
 
 -- ---- without a report
 
-module _ (text script_text : List ℕ) (settings : RunSettings) where
+module _ (text script_text : List ℕ) (conditions : List Condition) (settings : RunSettings) where
   abbrev pub ExplainsRun : Fault → Type 0
-  ExplainsRun (fault.Text refused) = IsRunRefused text settings.spec.now script_text settings refused
+  ExplainsRun (fault.Text refused) =
+      IsRunRefused text settings.spec.now script_text settings refused ⊎ ((tree : Spec) × IsAccepted text tree × IsOneRefused tree conditions refused)
   ExplainsRun fault.Memory = ⊤
   ExplainsRun fault.Unconfirmed = ((tree : Spec) × IsAccepted text tree) × ((script : Script) × IsScript script_text script)
   ExplainsRun (fault.Graph name) = ⊥

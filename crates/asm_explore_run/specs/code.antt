@@ -1,4 +1,5 @@
 -- Bridge to the code. What connects the definitions of this crate to its code.
+pub mod AskedEnds
 pub mod EndStatuses
 pub mod LineKeys
 pub mod NameOffsets

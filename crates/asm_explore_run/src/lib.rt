@@ -1,6 +1,7 @@
 //! What the commands `choices`, `clash` and `show` of `asm-explore` report of one run.
 #![tactic(auto)]
 
+mod asked_end;
 mod assignment_line;
 mod choice_entries;
 pub mod choices_report;
@@ -11,6 +12,6 @@ mod line_keys;
 mod run_end;
 pub mod show_report;
 mod show_text;
-mod shown_end;
 mod shown_assignments;
+mod shown_end;
 mod unmet_lines;

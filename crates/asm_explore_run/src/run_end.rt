@@ -1,13 +1,30 @@
-//! How the run ends that the settings of `choices` and `clash` ask for.
+//! How the run ends that the settings of `choices`, `clash` and `show` ask for.
 ghost use Rattle.std.specs.Prelude.{IfOk};
+ghost use Rattle.asm_syntax.specs.code.Views.{spec_of};
+ghost use Rattle.asm_reader.specs.ScriptLines as lines;
+ghost use Rattle.asm_reader.specs.ScriptText.{IsScript};
+ghost use Rattle.asm_run.specs.Headline.{IsAccepted, IsReturned};
+ghost use Rattle.asm_run.specs.Written.{names_in};
+ghost use Rattle.asm_explore_report.specs.EndWords.{IsRunLine};
 ghost use Rattle.asm_explore_report.specs.RunEnds.{IsEndOf};
+ghost use Rattle.asm_explore_run.specs.RunReport.{run_asked};
 
+use asm_check::Checked;
 use asm_explore_report::ended::{EndedRun, ended_run};
 use asm_explore_words::fault::Unshown;
 use asm_explore_words::settings::RunSettings;
+use asm_reader::{one_script, one_tree};
+use asm_run::end::End;
 use asm_run::error::RunError;
 use std::alloc::Global;
 use std::thread::Threads;
+
+/// How a run ends, and a line that says so.
+#[derive(Drop)]
+pub(crate) struct ToldEnd {
+    pub(crate) end: End,
+    pub(crate) line: Vec<u8>,
+}
 
 /// How the run that the settings ask for ends.
 pub(crate) fn ended<R: Threads + Sync>(
@@ -24,4 +41,26 @@ pub(crate) fn ended<R: Threads + Sync>(
         Err(RunError::Memory | RunError::Write) => Err(Unshown::Memory),
         Err(_) => Err(Unshown::Unconfirmed),
     }
+}
+
+/// How the run of a specification ends that the settings ask for, and a line that says so.
+pub(crate) fn told_end<R: Threads + Sync>(
+    rt: &R,
+    alloc: Global,
+    text: &[u8],
+    checked: &Checked,
+    script_text: &[u8],
+    settings: &RunSettings<'_>,
+) -> Result<ToldEnd, Unshown>
+    requires { IsAccepted text.now (spec_of checked.now.spec) }
+    ensures { let s = spec_of checked.now.spec in (script : lines.Script) → IsScript script_text.now script →
+        IfOk result (λ told. IsReturned (run_asked s settings.now script).end told.end
+        × IsRunLine (names_in s) settings.now.steps (run_asked s settings.now script).end told.line.items) }
+{
+    one_tree();
+    one_script();
+    let ended = ended(rt, alloc, text, script_text, settings)?;
+    let line = ended.line(alloc, checked, settings.steps)?;
+    let end = ended.end;
+    Ok(ToldEnd { end, line })
 }

@@ -10,40 +10,28 @@ ghost use Rattle.asm_explore_texts.specs.Comments.{lines_of};
 ghost use Rattle.asm_explore_texts.specs.Conditions.{AreAskedOf, texts_of};
 ghost use Rattle.asm_explore_texts.specs.RefusedTexts.{ExplainsText, IsOneRefused};
 ghost use Rattle.asm_explore_report.specs.BrokenRuns.{HoldBefore, IsFirstBroken};
-ghost use Rattle.asm_explore_run.specs.ShowReport.{ExplainsShow, IsShown, IsShowText, names_shown, show_status};
+ghost use Rattle.asm_explore_run.specs.AskedRun.{run_status};
+ghost use Rattle.asm_explore_run.specs.ShowReport.{ExplainsShow, IsShown, IsShowText, names_shown};
 ghost use Rattle.asm_explore_run.specs.ShownRun.{IsShownEnd};
 ghost use Rattle.asm_explore_run.specs.UnmetLines as unmet;
-ghost use Rattle.asm_explore_run.specs.code.ShownEnds.{end_said, IsFirstBrokenAsked};
+ghost use Rattle.asm_explore_run.specs.code.ShownEnds.{end_said};
 
+use crate::asked_end::{broken_of, status_of};
 use crate::show_text::show_text;
 use crate::shown_end::{ShownEnd, broken_end, whole_end};
 use crate::unmet_lines::unmet_lines;
 use asm_check::Checked;
 use asm_explore::{choices_of_run, lines_of_run};
-use asm_explore_report::broken_run::{BrokenState, first_broken};
-use asm_explore_report::checked_text::{all_asked, checked};
-use asm_explore_report::fault_words::Subject;
-use asm_explore_report::laws::all_asked_law;
+use asm_explore_report::checked_text::checked;
 use asm_explore_report::report::Report;
 use asm_explore_table::names::unknown_name;
 use asm_explore_texts::conditions::Condition;
 use asm_explore_texts::script_given::script_given;
 use asm_explore_words::fault::Fault;
-use asm_explore_words::settings::{RunSettings, ShowSettings};
+use asm_explore_words::settings::ShowSettings;
 use asm_reader::Script;
 use std::alloc::{AllocError, Global};
 use std::thread::Threads;
-
-/// The status of a run, if it has a fault, and else if all lines of its script are met.
-fn status_of(is_fault: bool, unmet: &[Vec<u8>]) -> u8
-    ensures { result ≡ show_status is_fault (lines_of unmet.now) }
-{
-    match (is_fault, unmet) {
-        (true, _) => 1,
-        (false, []) => 0,
-        (false, _) => 6,
-    }
-}
 
 /// The lines of the script that name no choice of the run that is shown.
 fn unmet_of(
@@ -75,35 +63,13 @@ fn report_of_end(
     ensures { let s = spec_of checked.now.spec in let turns = settings.now.run.turns in
         IfOk result (λ report. (made : List (List Choice)) × AreChoices s turns script.now end.now.steps made
         × IsShowText s turns script.now settings.now.run.spec.now (names_shown settings.now) (end_said end.now) (unmet.unmet_lines script_text.now (lines_forward made)) report.text.items
-        × (report.status ≡ show_status end.now.is_fault (unmet.unmet_lines script_text.now (lines_forward made)))) }
+        × (report.status ≡ run_status end.now.is_fault (unmet.unmet_lines script_text.now (lines_forward made)))) }
 {
     let turns = settings.run.turns;
     let unmet = unmet_of(alloc, checked, turns, script_text, script, end.steps)?;
     let text = show_text(alloc, checked, script, settings, end, unmet.as_slice())?;
     let status = status_of(end.is_fault, unmet.as_slice());
     Ok(Report { text, status })
-}
-
-/// The first state of the run in which one of the conditions isn't true.
-fn broken_of<'w>(
-    alloc: Global,
-    checked: &Checked,
-    script: &Script,
-    conditions: &[Condition<'w>],
-    settings: &RunSettings<'_>,
-) -> Result<Option<BrokenState>, Fault<'w>>
-    ensures found { IfOk result (IsFirstBrokenAsked (spec_of checked.now.spec) (texts_of conditions.now) settings.now.turns script.now settings.now.steps) }
-    ensures refused { IfErr result (ExplainsText (IsOneRefused (spec_of checked.now.spec) conditions.now)) }
-{
-    all_asked_law();
-    let always = all_asked(alloc, checked, conditions)?;
-    let subject = Subject {
-        checked,
-        always: &always,
-        turns: settings.turns,
-    };
-    let broken = first_broken(alloc, &subject, script, settings.steps)?;
-    Ok(broken)
 }
 
 /// What is printed of the run of a specification that the settings ask for.
@@ -147,15 +113,7 @@ pub fn show_report<'w, R: Threads + Sync>(
     ensures explained { IfErr result (ExplainsShow text.now script_text.now conditions.now settings.now) }
 {
     let checked = checked(alloc, text, settings.run.spec)?;
-    let report = report_of(
-        rt,
-        alloc,
-        text,
-        &checked,
-        script_text,
-        conditions,
-        settings,
-    );
+    let report = report_of(rt, alloc, text, &checked, script_text, conditions, settings);
     drop(checked);
     report
 }

@@ -8,9 +8,11 @@ ghost use Rattle.asm_meaning.specs.Run.{End as RunEnd};
 ghost use Rattle.asm_run.specs.Headline.{IsAccepted, IsReturned};
 ghost use Rattle.asm_explore_texts.specs.Comments.{lines_of};
 ghost use Rattle.asm_explore_report.specs.BrokenRuns.{HoldBefore, IsFirstBroken};
-ghost use Rattle.asm_explore_run.specs.ShownRun.{IsShownEnd, is_fault, steps_made};
+ghost use Rattle.asm_explore_run.specs.AskedRun.{is_fault};
+ghost use Rattle.asm_explore_run.specs.ShownRun.{IsShownEnd, steps_made};
 ghost use Rattle.asm_explore_run.specs.code.ShownEnds.{end_said};
 
+use crate::asked_end::ends_by_fault;
 use crate::run_end::ended;
 use crate::shown_assignments::assignments_shown;
 use asm_check::Checked;
@@ -50,13 +52,6 @@ fn steps_of(end: &End, steps: u32) -> Result<u32, Unshown>
         Ok(step) => Ok(step),
         Err(_) => Err(Unshown::Unconfirmed),
     }
-}
-
-/// Whether a run that ends so ends by a fault.
-fn ends_by_fault(end: &End) -> bool
-    ensures { (e : RunEnd) → IsReturned e end.now → result ≡ is_fault e }
-{
-    end.step().is_some()
 }
 
 /// The end of a run that is shown up to a state in which a condition isn't true.

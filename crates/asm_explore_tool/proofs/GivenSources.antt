@@ -2,7 +2,9 @@
 --     word_source, word_text     one more that a word gives
 --     file_source                one more in a file
 --     among_files                a file that can't be read, of several
-use Rattle.std.proofs.Common.{◌≡◌, ◌∙◌, ℕ, suc, ◌+◌, ◌<◌, List, [], ◌∷◌, ◌++◌, length, take, get_or, ap, sym, arith}
+--     given_alike, unread_alike  conditions that are given by these words and names, and a text that
+--                                can't be read for them
+use Rattle.std.proofs.Common.{◌≡◌, ◌∙◌, ℕ, suc, ◌+◌, ◌<◌, List, [], ◌∷◌, ◌++◌, length, take, get_or, Option, inr, ap, sym, subst, arith}
 use Rattle.std.specs.Borrow.{Bor}
 use Rattle.std.proofs.lemmas.List.{append_assoc, map-append, take_more}
 use Rattle.std.proofs.lemmas.Option.{IfSome_then, slice_get-get_or}
@@ -12,7 +14,8 @@ use Rattle.asm_explore_texts.specs.declared.conditions.Condition.{Condition}
 use Rattle.asm_explore_words.specs.declared.fault.Source.{Source}
 use Rattle.asm_explore_words.specs.declared.fault.Source.TheVariants as source
 use Rattle.asm_explore_tool.specs.Faults.{IsUnread, source_in}
-use Rattle.asm_explore_tool.specs.GivenTexts.{IsAmongFiles, file_sources, sources_of, word_sources}
+use Rattle.asm_explore_words.specs.declared.settings.RunSettings.{RunSettings}
+use Rattle.asm_explore_tool.specs.GivenTexts.{AreAlwaysGiven, IsAmongFiles, IsReadForQuestion, file_sources, sources_of, word_sources}
 use Rattle.asm_explore_tool.specs.declared.no_answer.NoAnswer.{NoAnswer}
 
 module _ (old new : List Condition) (c : Condition) (grown : new ≡ old ++ c ∷ []) where
@@ -45,3 +48,14 @@ module _ (old new : List Condition) (c : Condition) (grown : new ≡ old ++ c �
 pub among_files : (names : List (Bor Text)) (k : ℕ) (d : Bor Text) (fault : NoAnswer) → k < length names
     → IsUnread (λ s. s ≡ source.AlwaysFile (get_or names k d)) fault → IsUnread (IsAmongFiles names) fault
 among_files names k d fault low h = (IfSome_then (source_in fault) h.0 (λ s is. (k, get_or names k d, slice_get-get_or names k d low, is)), h.1)
+
+pub given_alike : (contents : Text → Option (List ℕ)) (words words' names names' : List (Bor Text)) (conditions : List Condition) → words ≡ words' → names ≡ names'
+    → AreAlwaysGiven contents words names conditions → AreAlwaysGiven contents words' names' conditions
+given_alike contents words words' names names' conditions same also given =
+    subst (λ ns. AreAlwaysGiven contents words' ns conditions) also (subst (λ ws. AreAlwaysGiven contents ws names conditions) same given)
+
+pub unread_alike : (settings : RunSettings) (names names' : List (Bor Text)) (fault : NoAnswer) → names ≡ names'
+    → IsUnread (IsAmongFiles names) fault → IsUnread (IsReadForQuestion settings names') fault
+unread_alike settings names names' fault same h =
+    let among = subst (λ ns. IsUnread (IsAmongFiles ns) fault) same h in
+    (IfSome_then (source_in fault) among.0 (λ s is. inr is), among.1)

@@ -1,9 +1,8 @@
 -- Free. No report has the status of a fault.
 --     of_report        the status of a report
 --     of_answer        of help or the version, too
-use Rattle.std.proofs.Common.{◌≡◌, ℕ, List, [], ◌∷◌, Option, inl, inr, arith, subst}
+use Rattle.std.proofs.Common.{◌≡◌, ℕ, Bool, true, false, List, [], ◌∷◌, Option, inl, inr, ⊎_elim, arith, subst}
 use Rattle.clap.specs.Walk.{Text}
-use Rattle.asm_meaning.specs.Run.{AtExhausted, AtFault, AtLimit, End}
 use Rattle.asm_explore.specs.declared.exploration_result.Finding.{Finding}
 use Rattle.asm_explore.specs.declared.exploration_result.Finding.TheVariants as finding
 use Rattle.asm_random.specs.declared.random_result.RandomFinding.{RandomFinding}
@@ -11,8 +10,11 @@ use Rattle.asm_random.specs.declared.random_result.RandomFinding.TheVariants as 
 use Rattle.asm_explore_all.specs.AllReport as all
 use Rattle.asm_explore_all.specs.MadeFiles.{MadeFile}
 use Rattle.asm_explore_random.specs.RandomReport.{random_status}
-use Rattle.asm_explore_run.specs.RunReport.{choices_status, run_asked, status_of_end}
+use Rattle.asm_explore_run.specs.AskedRun.{run_status}
+use Rattle.asm_explore_run.specs.RunReport.{IsClashReported}
+use Rattle.asm_explore_texts.specs.declared.conditions.Condition.{Condition}
 use Rattle.asm_explore_report.specs.declared.report.Report.{Report}
+use Rattle.asm_explore_words.specs.declared.settings.RunSettings.{RunSettings}
 use Rattle.asm_explore_words.specs.declared.settings.Task.{Task}
 use Rattle.asm_explore_words.specs.declared.settings.Task.TheVariants as task
 use Rattle.asm_explore_tool.specs.Faults.{IsOfFault}
@@ -37,28 +39,27 @@ of_random (random.Bad number bad) f = omega (arith, f.0)
 of_random random.WrongFirst f = omega (arith, f.0)
 of_random (random.Unwritten unwritten) f = omega (arith, f.0)
 
-of_choices : (end : End) (unmet : List (List ℕ)) → IsOfFault (choices_status end unmet) → ⊥
-of_choices AtLimit [] f = omega (arith, f.0)
-of_choices AtLimit (line ∷ more) f = omega (arith, f.1)
-of_choices (AtExhausted step q) unmet f = omega (arith, f.0)
-of_choices (AtFault step U) unmet f = omega (arith, f.0)
+of_run : (is_fault : Bool) (unmet : List (List ℕ)) → IsOfFault (run_status is_fault unmet) → ⊥
+of_run true unmet f = omega (arith, f.0)
+of_run false [] f = omega (arith, f.0)
+of_run false (line ∷ more) f = omega (arith, f.1)
 
-of_clash : (end : End) → IsOfFault (status_of_end end) → ⊥
-of_clash AtLimit f = omega (arith, f.0)
-of_clash (AtExhausted step q) f = omega (arith, f.0)
-of_clash (AtFault step U) f = omega (arith, f.0)
+of_clash : (text script_text : List ℕ) (conditions : List Condition) (settings : RunSettings) (report : Report)
+    → IsClashReported text script_text conditions settings report → IsOfFault report.status → ⊥
+of_clash text script_text conditions settings report is =
+    ⊎_elim (λ broken. apart report.status 1 broken.status (λ f. omega (arith, f.0))) (λ whole. apart report.status _ whole.status (of_run _ [])) is.reported
 
 module _ (contents : Text → Option (List ℕ)) (input : Option (List ℕ)) (before after : Option (List MadeFile)) where
   pub of_report : (asked : Task) (report : Report) → IsReportOf contents input before after asked report → IsOfFault report.status → ⊥
   of_report (task.All settings) report h =
       let is = h.reported.2 in apart report.status _ is.status (of_finding is.found.answer.finding)
   of_report (task.Random settings) report h = apart report.status _ h.1.reported.status (of_random h.1.reported.answer.finding)
-  of_report (task.Choices settings) report h =
-      let is = h.1.reported in
-      let end = (run_asked is.tree settings is.script).end in apart report.status _ is.status (of_choices end _)
-  of_report (task.Clash settings) report h =
-      let is = h.1.reported in
-      let end = (run_asked is.tree settings is.script).end in apart report.status (status_of_end end) is.status (of_clash end)
+  of_report (task.Choices question) report h =
+      let is = h.1.reported in apart report.status _ is.status (of_run is.is_fault _)
+  of_report (task.Clash question) report h =
+      let asked = h.1 in of_clash asked.text asked.script_text asked.conditions question.run report asked.reported
+  of_report (task.Show settings) report h =
+      let is = h.1.reported in apart report.status _ is.status (of_run is.end.is_fault _)
 
   pub of_answer : (IsWritten : List ℕ → Type 0) (words : List Text) (status : ℕ) → IsAnswer contents input IsWritten before after words status → IsOfFault status → ⊥
   of_answer IsWritten words status (inl output) = apart status output.report.status output.status_is (of_report output.task output.report output.reported)

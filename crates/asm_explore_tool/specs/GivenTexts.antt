@@ -10,18 +10,17 @@
 --                                              named has no bytes
 --     IsAmongFiles names source                the source is one of these files, of a condition
 --     IsRead, IsReadForRun                     the source is one of those that are read for settings
+--     IsReadForQuestion                        of a run: or one of the files of its conditions
 --     AreFronts contents names texts           the texts are those of the files with these names
---     AreAlwaysGiven contents words names texts
---                                              the texts are the words, and after them those of the
---                                              files with these names
 --     word_sources, file_sources               the sources of so many conditions that words give, and
 --                                              of those in files with these names
+--     AreAlwaysGiven contents words names conditions
+--                                              the conditions are the words, and after them those of
+--                                              the files with these names; and so their sources
 --     AreGiven contents settings conditions    the conditions are those that the settings give, and
 --                                              those of the files that they name; and so their sources
 --     AreRandomGiven contents settings conditions
 --                                              the same of the settings of `random`
---     AreShownGiven contents settings conditions
---                                              the same of the settings of `show`
 use Rattle.std.specs.Prelude.{◌≡◌, ◌⊎◌, ℕ, zero, suc, List, [], ◌∷◌, ◌++◌, length, map, slice_get, Option, Some, None, IfSome, cond, option_map, codes, ⊤}
 use Rattle.std.specs.Borrow.{Bor}
 use Rattle.std.specs.Str.{bytes_eq}
@@ -35,7 +34,6 @@ use Rattle.asm_explore_words.specs.declared.fault.Source.TheVariants as source
 use Rattle.asm_explore_words.specs.declared.settings.RandomSettings.{RandomSettings}
 use Rattle.asm_explore_words.specs.declared.settings.RunSettings.{RunSettings}
 use Rattle.asm_explore_words.specs.declared.settings.Settings.{Settings}
-use Rattle.asm_explore_words.specs.declared.settings.ShowSettings.{ShowSettings}
 
 -- reading goes no further: what is of this length is too long
 abbrev pub max_bytes_read : ℕ
@@ -56,6 +54,9 @@ IsRead spec names s = (s ≡ source.Specification spec) ⊎ IsAmongFiles names s
 abbrev pub IsReadForRun : RunSettings → Source → Type 0
 IsReadForRun settings s = (s ≡ source.Specification settings.spec) ⊎ ((name : Bor Text) × (settings.script ≡ Some name) × (s ≡ source.Script name))
 
+abbrev pub IsReadForQuestion : RunSettings → (names : List (Bor Text)) → Source → Type 0
+IsReadForQuestion settings names s = IsReadForRun settings s ⊎ IsAmongFiles names s
+
 abbrev pub word_sources : (count : ℕ) → List Source
 word_sources zero = []
 word_sources (suc count) = word_sources count ++ source.Always (suc count) ∷ []
@@ -65,10 +66,6 @@ file_sources names = map (λ name. source.AlwaysFile name) names
 
 abbrev pub sources_of : List Condition → List Source
 sources_of cs = map (λ c. c.source) cs
-
--- its texts, and the files of its conditions
-abbrev pub IsReadForShow : ShowSettings → Source → Type 0
-IsReadForShow settings s = IsReadForRun settings.run s ⊎ IsAmongFiles settings.always_files.items s
 
 -- ---- texts
 
@@ -93,26 +90,21 @@ module _ (contents : Text → Option (List ℕ)) where
   AreFronts (name ∷ names) [] = ⊥
   AreFronts (name ∷ names) (text ∷ more) = IsTextOfFile name text × AreFronts names more
 
-  pub record AreAlwaysGiven (words names : List Text) (asked : List (List ℕ)) : Type 0 where
+  pub record AreAlwaysGiven (words names : List (Bor Text)) (conditions : List Condition) : Type 0 where
+    pub sources : sources_of conditions ≡ word_sources (length words) ++ file_sources names
     pub files : List (List ℕ)
-    pub are_files : AreFronts names files
-    pub all : asked ≡ words ++ files
+    pub are_files : AreFronts (texts names) files
+    pub all : texts_of conditions ≡ texts words ++ files
 
   pub record AreGiven (settings : Settings) (conditions : Conditions) : Type 0 where
-    pub sources : sources_of conditions.always.items ≡ word_sources (length settings.always.items) ++ file_sources settings.always_files.items
     pub quiet_source : IfSome conditions.when_quiet (λ c. c.source ≡ source.DeadlockUnless)
     pub within_source : IfSome conditions.within (λ c. c.source ≡ source.Within)
-    pub always : AreAlwaysGiven (texts settings.always.items) (texts settings.always_files.items) (texts_of conditions.always.items)
+    pub always : AreAlwaysGiven settings.always.items settings.always_files.items conditions.always.items
     pub when_quiet : text_of conditions.when_quiet ≡ option_map (λ text. text.now) settings.when_quiet
     pub within : text_of conditions.within ≡ option_map (λ text. text.now) settings.within
 
   pub record AreRandomGiven (settings : RandomSettings) (conditions : Conditions) : Type 0 where
-    pub sources : sources_of conditions.always.items ≡ word_sources (length settings.always.items) ++ file_sources settings.always_files.items
     pub quiet_source : IfSome conditions.when_quiet (λ c. c.source ≡ source.DeadlockUnless)
-    pub always : AreAlwaysGiven (texts settings.always.items) (texts settings.always_files.items) (texts_of conditions.always.items)
+    pub always : AreAlwaysGiven settings.always.items settings.always_files.items conditions.always.items
     pub when_quiet : text_of conditions.when_quiet ≡ option_map (λ text. text.now) settings.when_quiet
     pub within : conditions.within ≡ None
-
-  pub record AreShownGiven (settings : ShowSettings) (conditions : List Condition) : Type 0 where
-    pub sources : sources_of conditions ≡ word_sources (length settings.always.items) ++ file_sources settings.always_files.items
-    pub always : AreAlwaysGiven (texts settings.always.items) (texts settings.always_files.items) (texts_of conditions)

@@ -30,7 +30,7 @@ use Rattle.clap.specs.Kinds.{IsAmong, Kinds}
 use Rattle.clap.specs.Values.{kind_of}
 use Rattle.clap.specs.Walk.{Text}
 use Rattle.asm_explore_tool.specs.Faults.{IsToldOf, IsUnread, status_of}
-use Rattle.asm_explore_tool.specs.GivenTexts.{AreGiven, AreRandomGiven, AreRunTexts, AreShownGiven, IsReadForShow, IsRead, IsReadForRun, IsText}
+use Rattle.asm_explore_tool.specs.GivenTexts.{AreAlwaysGiven, AreGiven, AreRandomGiven, AreRunTexts, IsRead, IsReadForQuestion, IsText}
 use Rattle.asm_explore_tool.specs.declared.no_answer.NoAnswer.{NoAnswer}
 use Rattle.asm_explore_tool.specs.declared.no_answer.NoAnswer.TheVariants as no_answer
 use Rattle.asm_explore_random.specs.RandomReport.{ExplainsRandom, IsRandomReported}
@@ -44,6 +44,7 @@ use Rattle.asm_explore_texts.specs.declared.conditions.Conditions.{Conditions}
 use Rattle.asm_explore_report.specs.declared.report.Report.{Report}
 use Rattle.asm_explore_words.specs.declared.fault.Fault.{Fault}
 use Rattle.asm_explore_words.specs.declared.settings.RandomSettings.{RandomSettings}
+use Rattle.asm_explore_words.specs.declared.settings.RunQuestion.{RunQuestion}
 use Rattle.asm_explore_words.specs.declared.settings.RunSettings.{RunSettings}
 use Rattle.asm_explore_words.specs.declared.settings.Settings.{Settings}
 use Rattle.asm_explore_words.specs.declared.settings.ShowSettings.{ShowSettings}
@@ -70,26 +71,28 @@ module _ (contents : Text → Option (List ℕ)) (input : Option (List ℕ)) whe
     pub given : AreRandomGiven contents settings conditions
     pub reported : IsRandomReported text conditions settings report
 
-  pub record IsReportOfRun (AreReported : (text script_text : List ℕ) → RunSettings → Report → Type 0) (settings : RunSettings) (report : Report) : Type 0 where
+  pub record IsReportOfRun (AreReported : (text script_text : List ℕ) → List Condition → RunSettings → Report → Type 0) (question : RunQuestion) (report : Report) : Type 0 where
     pub text : List ℕ
     pub script_text : List ℕ
-    pub are_texts : AreRunTexts contents input settings text script_text
-    pub reported : AreReported text script_text settings report
+    pub are_texts : AreRunTexts contents input question.run text script_text
+    pub conditions : List Condition
+    pub given : AreAlwaysGiven contents question.always.items question.always_files.items conditions
+    pub reported : AreReported text script_text conditions question.run report
 
   pub record IsReportOfShow (settings : ShowSettings) (report : Report) : Type 0 where
     pub text : List ℕ
     pub script_text : List ℕ
     pub are_texts : AreRunTexts contents input settings.run text script_text
     pub conditions : List Condition
-    pub given : AreShownGiven contents settings conditions
+    pub given : AreAlwaysGiven contents settings.always.items settings.always_files.items conditions
     pub reported : IsShown text script_text conditions settings report
 
   -- of the files that are known to be made, before and after
   abbrev pub IsReportOf : (before after : Option (List MadeFile)) → Task → Report → Type 0
   IsReportOf before after (All settings) report = IsReportOfAll before after settings report
   IsReportOf before after (Random settings) report = Makes before after [] × IsReportOfRandom settings report
-  IsReportOf before after (Choices settings) report = Makes before after [] × IsReportOfRun AreChoicesReported settings report
-  IsReportOf before after (Clash settings) report = Makes before after [] × IsReportOfRun IsClashReported settings report
+  IsReportOf before after (Choices question) report = Makes before after [] × IsReportOfRun AreChoicesReported question report
+  IsReportOf before after (Clash question) report = Makes before after [] × IsReportOfRun IsClashReported question report
   IsReportOf before after (Show settings) report = Makes before after [] × IsReportOfShow settings report
 
   -- ---- without a report
@@ -112,20 +115,22 @@ module _ (contents : Text → Option (List ℕ)) (input : Option (List ℕ)) whe
     pub is : IsToldOf text cause fault
     pub explained : ExplainsRandom text conditions settings cause
 
-  pub record IsFaultOfRun (settings : RunSettings) (fault : NoAnswer) : Type 0 where
+  pub record IsFaultOfRun (question : RunQuestion) (fault : NoAnswer) : Type 0 where
     pub text : List ℕ
     pub script_text : List ℕ
-    pub are_texts : AreRunTexts contents input settings text script_text
+    pub are_texts : AreRunTexts contents input question.run text script_text
+    pub conditions : List Condition
+    pub given : AreAlwaysGiven contents question.always.items question.always_files.items conditions
     pub cause : Fault
     pub is : IsToldOf text cause fault
-    pub explained : ExplainsRun text script_text settings cause
+    pub explained : ExplainsRun text script_text conditions question.run cause
 
   pub record IsFaultOfShow (settings : ShowSettings) (fault : NoAnswer) : Type 0 where
     pub text : List ℕ
     pub script_text : List ℕ
     pub are_texts : AreRunTexts contents input settings.run text script_text
     pub conditions : List Condition
-    pub given : AreShownGiven contents settings conditions
+    pub given : AreAlwaysGiven contents settings.always.items settings.always_files.items conditions
     pub cause : Fault
     pub is : IsToldOf text cause fault
     pub explained : ExplainsShow text script_text conditions settings cause
@@ -135,9 +140,12 @@ module _ (contents : Text → Option (List ℕ)) (input : Option (List ℕ)) whe
       (IsUnread (IsRead settings.spec settings.always_files.items) fault × Makes before after []) ⊎ IsFaultOfAll before after settings fault
   ExplainsTask before after (Random settings) fault =
       Makes before after [] × (IsUnread (IsRead settings.spec settings.always_files.items) fault ⊎ IsFaultOfRandom settings fault)
-  ExplainsTask before after (Choices settings) fault = Makes before after [] × (IsUnread (IsReadForRun settings) fault ⊎ IsFaultOfRun settings fault)
-  ExplainsTask before after (Clash settings) fault = Makes before after [] × (IsUnread (IsReadForRun settings) fault ⊎ IsFaultOfRun settings fault)
-  ExplainsTask before after (Show settings) fault = Makes before after [] × (IsUnread (IsReadForShow settings) fault ⊎ IsFaultOfShow settings fault)
+  ExplainsTask before after (Choices question) fault =
+      Makes before after [] × (IsUnread (IsReadForQuestion question.run question.always_files.items) fault ⊎ IsFaultOfRun question fault)
+  ExplainsTask before after (Clash question) fault =
+      Makes before after [] × (IsUnread (IsReadForQuestion question.run question.always_files.items) fault ⊎ IsFaultOfRun question fault)
+  ExplainsTask before after (Show settings) fault =
+      Makes before after [] × (IsUnread (IsReadForQuestion settings.run settings.always_files.items) fault ⊎ IsFaultOfShow settings fault)
 
 -- some text is written, which the library that reads the words has for them
 abbrev pub IsHelp : (IsWritten : List ℕ → Type 0) → Kinds → Type 0

@@ -2,16 +2,16 @@
 ghost use Rattle.std.specs.Prelude.{◌≡◌, ◌⊎◌, [], false, Ok, Err, IfOk, IfErr};
 ghost use Rattle.asm_explore_words.specs.declared.fault.Fault.{Fault as Cause};
 ghost use Rattle.asm_explore_tool.specs.Faults.{IsToldOf, IsUnread};
-ghost use Rattle.asm_explore_tool.specs.GivenTexts.{IsRead, IsReadForRun, IsReadForShow};
+ghost use Rattle.asm_explore_tool.specs.GivenTexts.{IsRead, IsReadForQuestion};
 ghost use Rattle.asm_explore_tool.specs.Outputs.{ExplainsTask, IsFaultOfAll, IsFaultOfRandom, IsFaultOfRun, IsFaultOfShow, IsReportOf, IsReportOfAll, IsReportOfRandom, IsReportOfRun, IsReportOfShow};
 ghost use Rattle.asm_explore_all.specs.MadeFiles.{Makes};
 ghost use Rattle.asm_explore_run.specs.RunReport.{AreChoicesReported, IsClashReported};
 ghost use Rattle.asm_explore_words.specs.WordsSaid.{reads_input_twice, reads_task_twice};
 
-use crate::given_texts::{conditions, random_conditions, shown_conditions, text};
+use crate::given_texts::{always_given, conditions, random_conditions, text};
 use crate::no_answer::NoAnswer;
 use crate::progress_lines::ProgressLines;
-use crate::run_texts::{RunTexts, run_texts};
+use crate::run_texts::run_texts;
 use asm_explore::{Progress, Watch};
 use asm_explore_all::all_report::all_report;
 use asm_explore_all::files::NewFiles;
@@ -21,7 +21,7 @@ use asm_explore_run::choices_report::choices_report;
 use asm_explore_run::clash_report::clash_report;
 use asm_explore_run::show_report::show_report;
 use asm_explore_words::fault::{Fault, Source};
-use asm_explore_words::settings::{RandomSettings, RunSettings, Settings, ShowSettings, Task};
+use asm_explore_words::settings::{RandomSettings, RunQuestion, Settings, ShowSettings, Task};
 use asm_files::folder::Folder;
 use asm_random::RandomProgress;
 use asm_run::sink::Sink;
@@ -53,8 +53,8 @@ pub(crate) fn report<'w, R: Threads + Clock + Sync, F: Folder + NewFiles, I: Rea
             lines.begin(settings.progress);
             report_of_random(rt, folder, alloc, settings, input, lines)
         }
-        Task::Choices(settings) => report_of_choices(rt, folder, alloc, settings, input),
-        Task::Clash(settings) => report_of_clash(rt, folder, alloc, settings, input),
+        Task::Choices(question) => report_of_choices(rt, folder, alloc, question, input),
+        Task::Clash(question) => report_of_clash(rt, folder, alloc, question, input),
         Task::Show(settings) => report_of_show(rt, folder, alloc, settings, input),
     }
 }
@@ -64,17 +64,20 @@ fn report_of_choices<'w, R: Threads + Sync, F: Folder, I: Read + Drop>(
     rt: &R,
     folder: &F,
     alloc: Global,
-    settings: &RunSettings<'w>,
+    question: &RunQuestion<'w>,
     input: I,
 ) -> Result<Report, NoAnswer<'w>>
-    requires { reads_input_twice settings.now ≡ false }
-    ensures report { IfOk result (IsReportOfRun (F.contents folder.now) (I.remaining input) AreChoicesReported settings.now) }
-    ensures explained { IfErr result (λ fault. IsUnread (IsReadForRun settings.now) fault ⊎ IsFaultOfRun (F.contents folder.now) (I.remaining input) settings.now fault) }
+    requires { reads_input_twice question.now.run ≡ false }
+    ensures report { IfOk result (IsReportOfRun (F.contents folder.now) (I.remaining input) AreChoicesReported question.now) }
+    ensures explained { IfErr result (λ fault. IsUnread (IsReadForQuestion question.now.run question.now.always_files.items) fault ⊎ IsFaultOfRun (F.contents folder.now) (I.remaining input) question.now fault) }
 {
-    let texts = run_texts(folder, alloc, settings, input)?;
+    let texts = run_texts(folder, alloc, &question.run, input)?;
+    let names = question.always_files.as_slice();
+    let conditions = always_given(folder, alloc, question.always.as_slice(), names)?;
     let (text, script) = (texts.text.as_slice(), texts.script.as_slice());
-    let report = choices_report(rt, alloc, text, script, settings)?;
-    Ok(report)
+    let asked = conditions.as_slice();
+    let report = choices_report(rt, alloc, text, script, asked, &question.run);
+    told(report, texts.text)
 }
 
 /// The assignments by which the run ends that settings ask for.
@@ -82,17 +85,20 @@ fn report_of_clash<'w, R: Threads + Sync, F: Folder, I: Read + Drop>(
     rt: &R,
     folder: &F,
     alloc: Global,
-    settings: &RunSettings<'w>,
+    question: &RunQuestion<'w>,
     input: I,
 ) -> Result<Report, NoAnswer<'w>>
-    requires { reads_input_twice settings.now ≡ false }
-    ensures report { IfOk result (IsReportOfRun (F.contents folder.now) (I.remaining input) IsClashReported settings.now) }
-    ensures explained { IfErr result (λ fault. IsUnread (IsReadForRun settings.now) fault ⊎ IsFaultOfRun (F.contents folder.now) (I.remaining input) settings.now fault) }
+    requires { reads_input_twice question.now.run ≡ false }
+    ensures report { IfOk result (IsReportOfRun (F.contents folder.now) (I.remaining input) IsClashReported question.now) }
+    ensures explained { IfErr result (λ fault. IsUnread (IsReadForQuestion question.now.run question.now.always_files.items) fault ⊎ IsFaultOfRun (F.contents folder.now) (I.remaining input) question.now fault) }
 {
-    let texts = run_texts(folder, alloc, settings, input)?;
+    let texts = run_texts(folder, alloc, &question.run, input)?;
+    let names = question.always_files.as_slice();
+    let conditions = always_given(folder, alloc, question.always.as_slice(), names)?;
     let (text, script) = (texts.text.as_slice(), texts.script.as_slice());
-    let report = clash_report(rt, alloc, text, script, settings)?;
-    Ok(report)
+    let asked = conditions.as_slice();
+    let report = clash_report(rt, alloc, text, script, asked, &question.run);
+    told(report, texts.text)
 }
 
 /// The table of the run that settings ask for.
@@ -105,13 +111,15 @@ fn report_of_show<'w, R: Threads + Sync, F: Folder, I: Read + Drop>(
 ) -> Result<Report, NoAnswer<'w>>
     requires { reads_input_twice settings.now.run ≡ false }
     ensures report { IfOk result (IsReportOfShow (F.contents folder.now) (I.remaining input) settings.now) }
-    ensures explained { IfErr result (λ fault. IsUnread (IsReadForShow settings.now) fault ⊎ IsFaultOfShow (F.contents folder.now) (I.remaining input) settings.now fault) }
+    ensures explained { IfErr result (λ fault. IsUnread (IsReadForQuestion settings.now.run settings.now.always_files.items) fault ⊎ IsFaultOfShow (F.contents folder.now) (I.remaining input) settings.now fault) }
 {
-    let RunTexts { text, script } = run_texts(folder, alloc, &settings.run, input)?;
-    let conditions = shown_conditions(folder, alloc, settings)?;
-    let (bytes, lines) = (text.as_slice(), script.as_slice());
-    let report = show_report(rt, alloc, bytes, lines, conditions.as_slice(), settings);
-    told(report, text)
+    let texts = run_texts(folder, alloc, &settings.run, input)?;
+    let names = settings.always_files.as_slice();
+    let conditions = always_given(folder, alloc, settings.always.as_slice(), names)?;
+    let (text, script) = (texts.text.as_slice(), texts.script.as_slice());
+    let asked = conditions.as_slice();
+    let report = show_report(rt, alloc, text, script, asked, settings);
+    told(report, texts.text)
 }
 
 /// The report for settings of `all`.

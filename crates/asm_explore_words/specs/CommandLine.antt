@@ -7,10 +7,11 @@
 --                                       after `random`: the text's file, an option for each limit
 --                                       and condition and for the seed, and two flags
 --     run_command, run_refusals words   after `choices` and `clash`: the text's file, and an option
---                                       for each limit and for the script's file
+--                                       for each limit, for the script's file, for conditions and
+--                                       for files of conditions
 --     show_command, show_refusals words
---                                       after `show`: the same, and an option for conditions, for
---                                       files of conditions, for names and for the width
+--                                       after `show`: the same, and an option for names and for
+--                                       the width
 --     commands, command_refusals words  all of them, one of which has to be named first. The kinds
 --                                       of what is wrong with words that name none
 use Rattle.std.specs.Prelude.{ℕ, false, true, List, [], ◌∷◌, Some, codes}
@@ -119,6 +120,8 @@ run_command = record {
         ∷ number (steps_or_else (codes "1000"))
         ∷ number turns_option
         ∷ option (codes "script")
+        ∷ repeated (option (codes "always"))
+        ∷ repeated (option (codes "always-file"))
         ∷ [];
   };
   subs = [];

@@ -38,6 +38,7 @@ use Rattle.asm_explore_words.specs.CommandLine.{command, command_refusals, most_
 use Rattle.asm_explore_words.specs.declared.settings.WordFault.{WordFault}
 use Rattle.asm_explore_words.specs.declared.settings.WordFault.TheVariants.{Memory, Words}
 use Rattle.asm_explore_words.specs.declared.settings.RandomSettings.{RandomSettings}
+use Rattle.asm_explore_words.specs.declared.settings.RunQuestion.{RunQuestion}
 use Rattle.asm_explore_words.specs.declared.settings.RunSettings.{RunSettings}
 use Rattle.asm_explore_words.specs.declared.settings.Settings.{Settings}
 use Rattle.asm_explore_words.specs.declared.settings.ShowSettings.{ShowSettings}
@@ -90,8 +91,8 @@ are_show_in_range s = are_within (show_numbers_of s)
 abbrev pub is_task_in_range : Task → Bool
 is_task_in_range (All settings) = are_in_range settings
 is_task_in_range (Random settings) = are_random_in_range settings
-is_task_in_range (Choices settings) = are_run_in_range settings
-is_task_in_range (Clash settings) = are_run_in_range settings
+is_task_in_range (Choices question) = are_run_in_range question.run
+is_task_in_range (Clash question) = are_run_in_range question.run
 is_task_in_range (Show settings) = are_show_in_range settings
 
 -- the entry of an argument has a text, of a number of 64 bits
@@ -218,6 +219,11 @@ pub record AreRunRead (rows : List Row) (settings : RunSettings) : Type 0 where
   pub numbers : AreNumbers rows (run_numbers_of settings)
   pub script : option_map (λ text. text.now) settings.script ≡ first_of (codes "script") rows
 
+pub record IsQuestionRead (rows : List Row) (question : RunQuestion) : Type 0 where
+  pub run : AreRunRead rows question.run
+  pub always : texts question.always.items ≡ all_of (codes "always") rows
+  pub always_files : texts question.always_files.items ≡ all_of (codes "always-file") rows
+
 -- the text and the script are both on standard input
 abbrev pub reads_input_twice : RunSettings → Bool
 reads_input_twice settings = is_input (Some settings.spec.now) && is_input (option_map (λ text. text.now) settings.script)
@@ -225,8 +231,8 @@ reads_input_twice settings = is_input (Some settings.spec.now) && is_input (opti
 abbrev pub reads_task_twice : Task → Bool
 reads_task_twice (All settings) = false
 reads_task_twice (Random settings) = false
-reads_task_twice (Choices settings) = reads_input_twice settings
-reads_task_twice (Clash settings) = reads_input_twice settings
+reads_task_twice (Choices question) = reads_input_twice question.run
+reads_task_twice (Clash question) = reads_input_twice question.run
 reads_task_twice (Show settings) = reads_input_twice settings.run
 
 -- the words ask for both from standard input
@@ -236,8 +242,8 @@ are_both_input words = is_input (first_of (codes "spec") (run_rows words)) && is
 abbrev pub AreRunTaken : List Text → Type 0
 AreRunTaken words = (run_refusals words ≡ []) × (are_both_input words ≡ false)
 
-abbrev pub AreRunSaid : List Text → RunSettings → Type 0
-AreRunSaid words settings = AreRunTaken words × AreRunRead (run_rows words) settings
+abbrev pub AreRunSaid : List Text → RunQuestion → Type 0
+AreRunSaid words question = AreRunTaken words × IsQuestionRead (run_rows words) question
 
 pub record AreShowRead (rows : List Row) (settings : ShowSettings) : Type 0 where
   pub spec : first_of (codes "spec") rows ≡ Some settings.run.spec.now
@@ -285,8 +291,8 @@ abbrev pub AreSaidBehind : List Text → Task → Type 0
 AreSaidBehind [] task = ⊥
 AreSaidBehind (command ∷ words) (All settings) = (command ≡ codes "all") × AreSaid words settings
 AreSaidBehind (command ∷ words) (Random settings) = (command ≡ codes "random") × (random_refusals words ≡ []) × AreRandomSaid words settings
-AreSaidBehind (command ∷ words) (Choices settings) = (command ≡ codes "choices") × AreRunSaid words settings
-AreSaidBehind (command ∷ words) (Clash settings) = (command ≡ codes "clash") × AreRunSaid words settings
+AreSaidBehind (command ∷ words) (Choices question) = (command ≡ codes "choices") × AreRunSaid words question
+AreSaidBehind (command ∷ words) (Clash question) = (command ≡ codes "clash") × AreRunSaid words question
 AreSaidBehind (command ∷ words) (Show settings) = (command ≡ codes "show") × AreShowSaid words settings
 
 -- the kinds of what is wrong with the words after this command; `words` are all words

@@ -8,14 +8,16 @@ ghost use Rattle.clap.specs.declared.error.kind.ErrorKind.TheVariants.{ArgumentC
 ghost use Rattle.asm_arguments.specs.Numbers.{HaveNumbers};
 ghost use Rattle.asm_explore_words.specs.CommandLine as line;
 ghost use Rattle.asm_explore_words.specs.CommandLine.{command_refusals, named, random_refusals, refusals, run_refusals};
-ghost use Rattle.asm_explore_words.specs.WordsSaid.{AreParsed, AreRead, AreRunParsed, AreRunRead, AreRunSaid, AreSaidBehind, IsRefusal, all_refusals, all_rows, are_in_range, are_run_in_range, is_task_in_range, number_options, one_run_refusals, run_number_options, run_rows, task_refusals};
+ghost use Rattle.asm_explore_words.specs.WordsSaid.{AreParsed, AreRead, AreRunParsed, AreRunSaid, AreSaidBehind, IsQuestionRead, IsRefusal, all_refusals, all_rows, are_in_range, are_run_in_range, is_task_in_range, number_options, one_run_refusals, run_number_options, run_rows, task_refusals};
 
 use crate::arguments::{is_set, texts_of};
 use crate::commands::{Argument, described, with_arguments};
 use crate::help;
 use crate::number_options::{OUTCOMES, RUN_STEPS, STATES, STEPS, TURNS, WORKERS};
 use crate::random_words::{random, random_settings};
-use crate::settings::{RunSettings, Settings, Task, WordFault, is_standard_input, two_in_one};
+use crate::settings::{
+    RunQuestion, RunSettings, Settings, Task, WordFault, is_standard_input, two_in_one,
+};
 use crate::show_words::{show, show_settings};
 use crate::text_options::{
     ALWAYS, ALWAYS_FILE, DEADLOCK_UNLESS, DOT, PROGRESS, QUIET, SCRIPT, TRACE, WITHIN,
@@ -66,11 +68,13 @@ static ALL_ARGUMENTS: [Argument; 14] = [
 ];
 
 /// The arguments of `choices` and `clash`.
-static RUN_ARGUMENTS: [Argument; 4] = [
+static RUN_ARGUMENTS: [Argument; 6] = [
     Argument::Specification,
     Argument::Number(RUN_STEPS),
     Argument::Number(TURNS),
     SCRIPT,
+    ALWAYS,
+    ALWAYS_FILE,
 ];
 
 /// The command and the settings that the words give, the program's name not among them. The first
@@ -204,22 +208,24 @@ fn all<'w>(alloc: Global) -> Result<Command<'w>, AllocError>
     with_arguments(alloc, command, &ALL_ARGUMENTS)
 }
 
-/// The settings that the words after `choices` or `clash` give.
+/// The run and the conditions that the words after `choices` or `clash` give.
 fn run_settings<'w, S: AsStr>(
     alloc: Global,
     called: &'w str,
     about: &'w str,
     words: &'w [S],
-) -> Result<RunSettings<'w>, WordFault>
-    ensures in_range { IfOk result (λ s. IsTrue (are_run_in_range s)) }
+) -> Result<RunQuestion<'w>, WordFault>
+    ensures in_range { IfOk result (λ question. IsTrue (are_run_in_range question.run)) }
     ensures said { IfOk result (AreRunSaid (map S.text words.entry.now)) }
     ensures refused { IfErr result (IsRefusal (one_run_refusals (map S.text words.entry.now))) }
 {
-    let settings = run_given(alloc, called, about, words)?;
-    if is_standard_input(Some(settings.spec)) && is_standard_input(settings.script) {
+    let question = run_given(alloc, called, about, words)?;
+    let run = question.run;
+    if is_standard_input(Some(run.spec)) && is_standard_input(run.script) {
+        drop(question);
         return Err(both_are_input(alloc, called, about)?.into());
     }
-    Ok(settings)
+    Ok(question)
 }
 
 /// What is to be said if the specification and the script are both to be read from the input.
@@ -233,27 +239,41 @@ fn both_are_input<'w>(alloc: Global, called: &'w str, about: &'w str) -> Result<
     Ok(error?)
 }
 
-/// The same settings, whether or not the specification and the script are both standard input.
+/// The same, whether or not the specification and the script are both standard input.
 fn run_given<'w, S: AsStr>(
     alloc: Global,
     called: &'w str,
     about: &'w str,
     words: &'w [S],
-) -> Result<RunSettings<'w>, Error>
-    ensures in_range { IfOk result (λ s. IsTrue (are_run_in_range s)) }
+) -> Result<RunQuestion<'w>, Error>
+    ensures in_range { IfOk result (λ question. IsTrue (are_run_in_range question.run)) }
     ensures taken { IfOk result (λ _. run_refusals (map S.text words.entry.now) ≡ []) }
-    ensures read { IfOk result (AreRunRead (run_rows (map S.text words.entry.now))) }
+    ensures read { IfOk result (IsQuestionRead (run_rows (map S.text words.entry.now))) }
     ensures refused { IfErr result (HasKind (run_refusals (map S.text words.entry.now))) }
 {
     let given = run_parsed(alloc, called, about, words)?;
-    let settings = RunSettings {
-        spec: given.get_str("spec").unwrap(),
-        steps: number_of(&given, RUN_STEPS),
-        turns: number_of(&given, TURNS),
-        script: given.get_str("script"),
-    };
+    let question = run_read(alloc, &given);
     drop(given);
-    Ok(settings)
+    Ok(question?)
+}
+
+/// The run and the conditions that are among what the words after `choices` or `clash` give.
+fn run_read<'w>(alloc: Global, given: &ArgMatches<'w>) -> Result<RunQuestion<'w>, AllocError>
+    requires spec { is_some (first_value (found_of given.now) (codes "spec")) ≡ true }
+    requires numbers { HaveNumbers (found_of given.now) run_number_options }
+    ensures in_range { IfOk result (λ question. IsTrue (are_run_in_range question.run)) }
+    ensures read { IfOk result (IsQuestionRead (rows_of (found_of given.now))) }
+{
+    Ok(RunQuestion {
+        run: RunSettings {
+            spec: given.get_str("spec").unwrap(),
+            steps: number_of(given, RUN_STEPS),
+            turns: number_of(given, TURNS),
+            script: given.get_str("script"),
+        },
+        always: texts_of(alloc, given, "always")?,
+        always_files: texts_of(alloc, given, "always-file")?,
+    })
 }
 
 /// What the words after `choices` or `clash` give.

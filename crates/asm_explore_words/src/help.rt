@@ -68,6 +68,10 @@ The output is a script: each line is `STEP PATH NUMBER`, or a comment, which beg
 first line says how the run ends:
   limit after step N            all of its N steps were made
   fault in step N: clash ..     step N fails as it does in asm; so do outside and exhausted
+  fault after step N: condition K is false
+                                after step N the Kth condition isn't true, and each is in the states
+                                before; the next comment says why. The run is looked at up to this
+                                state. The conditions of --always come before those of --always-file
 
 `choices` then writes a line for each choose that was asked and had candidates, also if the first one
 was taken. Before it a comment shows the line and the column of the choose, its variable, and its
@@ -81,8 +85,8 @@ that are bound there with their values, the innermost first.
 
 Status:
   0  the run made all its steps; or help or the version was asked for
-  1  the run ended early: clash, outside or exhausted
-  2  the specification or the script is refused
+  1  the run ended early: clash, outside or exhausted; or a condition isn't true
+  2  the specification, the script or a condition is refused
   3  out of memory, a file can't be read, or the output can't be written
   4  the command line is wrong
   6  the run made all its steps, and a line of the script met no choose (`choices` alone)";

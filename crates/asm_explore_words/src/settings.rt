@@ -17,9 +17,9 @@ pub enum Task<'w> {
     /// To look at random runs.
     Random(RandomSettings<'w>),
     /// To show the choices of one run.
-    Choices(RunSettings<'w>),
+    Choices(RunQuestion<'w>),
     /// To show the assignments by which one run ends.
-    Clash(RunSettings<'w>),
+    Clash(RunQuestion<'w>),
     /// To show one run as a table.
     Show(ShowSettings<'w>),
 }
@@ -84,7 +84,18 @@ pub struct RandomSettings<'w> {
     pub progress: bool,
 }
 
-/// What the words after `choices` or `clash` ask for: of which run something is shown.
+/// What the words after `choices` or `clash` ask for.
+#[derive(Debug, Drop)]
+pub struct RunQuestion<'w> {
+    /// The run of which something is shown.
+    pub run: RunSettings<'w>,
+    /// The conditions that are to be true in each state, in the order of the words.
+    pub always: Vec<&'w str>,
+    /// The names of the files of further such conditions.
+    pub always_files: Vec<&'w str>,
+}
+
+/// A run of which something is shown.
 #[derive(Clone, Copy, Debug, PartialEq, Eq)]
 pub struct RunSettings<'w> {
     /// The name of the specification's file; `-` is standard input.

@@ -10,5 +10,5 @@ pub returns-in-Ok-longest-clause-says : goal.returns-in-Ok-longest-clause-says
 returns-in-Ok-longest-clause-says c steps apart =
     let entries = c.args.entries.now in
     let script = exactly (said_by entries) in
-    commented_says c.args.first.now entries (lines_of c.args.last.now) c.in-Ok-longest.text.items c.in-Ok-longest.ensures.text script
+    commented_says c.args.first.now (lines_of c.args.behind.now) entries (lines_of c.args.last.now) c.in-Ok-longest.text.items c.in-Ok-longest.ensures.text script
     (subst (λ t. IsScript t script) c.in-Ok.ensures.text.is (c.in-Ok.ensures.script steps apart))

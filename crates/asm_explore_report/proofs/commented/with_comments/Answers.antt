@@ -1,4 +1,4 @@
-use Rattle.std.proofs.Common.{◌≡◌, ◌∷◌, ◌++◌, [], length, take, get_or, ap, subst, arith, ◌∙◌}
+use Rattle.std.proofs.Common.{◌≡◌, ◌∷◌, ◌++◌, length, take, get_or, ap, subst, arith, ◌∙◌}
 use Rattle.std.proofs.lemmas.Result.{err_from_is_err_and}
 use Rattle.asm_explore.specs.WrittenScripts.{IsTextRefusal, line_said, line_text, numbers_of_line}
 use Rattle.asm_explore_texts.specs.Comments.{comments, lines_of}
@@ -20,7 +20,7 @@ returns-then-len-gt-MAX_SCRIPT-clause-long c =
     let entries = c.args.entries.now in
     let i = c.loop-i.i in
     let one = c.index-entries-i.result in
-    let front = comments (c.args.first.now ∷ []) in
+    let front = comments (c.args.first.now ∷ lines_of c.args.behind.now) in
     let text : c.add_entry.new.text.items ≡ (front ++ entries_text (take i entries)) ++ entry_text (get_or entries i one) =
     c.in_ok-add_entry.ensures.added ∙ (ap (λ t. t ++ entry_text one) c.loop-i.invariant ∙ ap (λ e. (front ++ entries_text (take i entries)) ++ entry_text e) c.index-entries-i.is) in
     longer_already front entries (lines_of c.args.last.now) i one c.loop-i-test.true (omega (arith, c.if-len-gt-MAX_SCRIPT.true, c.len.ensures, ap length text))

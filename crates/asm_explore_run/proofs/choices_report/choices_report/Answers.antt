@@ -8,4 +8,4 @@ report_of-report-requires-clause-accepted g c κs inside = c.in_ok-checked.ensur
 pub returns-in_err-checked-clause-explained : goal.returns-in_err-checked-clause-explained
 returns-in_err-checked-clause-explained g c =
     let p = err_from_is_err_and c.from_residual.result c.from_residual.ensures.1 in
-    rw (p.1, p.2) (of_specification c.args.text.now c.args.script_text.now c.args.settings.now c.in_err-checked.field-0.0 c.in_err-checked.ensures.refused)
+    rw (p.1, p.2) (of_specification c.args.text.now c.args.script_text.now c.args.conditions.now c.args.settings.now c.in_err-checked.field-0.0 c.in_err-checked.ensures.refused)

@@ -1,7 +1,5 @@
-use Rattle.std.proofs.Common.{◌≡◌, ◌++◌, length, refl, subst}
-use Rattle.clap.specs.Walk.{texts}
-use Rattle.asm_explore_texts.specs.Conditions.{texts_of}
-use Rattle.asm_explore_tool.specs.GivenTexts.{AreAlwaysGiven, file_sources, sources_of, word_sources}
+use Rattle.std.proofs.Common.{refl, subst}
+use Rattle.asm_explore_tool.specs.GivenTexts.{AreAlwaysGiven}
 use Rattle.asm_explore_tool.proofs.given_texts.random_conditions.Goals as goal
 
 pub returns-clause-given : goal.returns-clause-given
@@ -9,13 +7,10 @@ returns-clause-given g c =
     let settings = c.args.settings.now in
     let contents = g.F.Folder.contents c.args.folder.now in
     let always = c.in_ok-always.always.items in
-    let all = texts_of always in
     record {
-      always = subst (λ names. AreAlwaysGiven contents (texts settings.always.items) (texts names) all) c.as_slice-names.ensures.value
-          (subst (λ words. AreAlwaysGiven contents (texts words) (texts c.as_slice-names.result.now) all) c.as_slice.ensures.value c.in_ok-always.ensures.given);
+      always = subst (λ names. AreAlwaysGiven contents settings.always.items names always) c.as_slice-names.ensures.value
+          (subst (λ words. AreAlwaysGiven contents words c.as_slice-names.result.now always) c.as_slice.ensures.value c.in_ok-always.ensures.given);
       when_quiet = c.in_ok-when_quiet.ensures.text;
-      sources = subst (λ names. sources_of always ≡ word_sources (length settings.always.items) ++ file_sources names) c.as_slice-names.ensures.value
-          (subst (λ words. sources_of always ≡ word_sources (length words) ++ file_sources c.as_slice-names.result.now) c.as_slice.ensures.value c.in_ok-always.ensures.sources);
       quiet_source = c.in_ok-when_quiet.ensures.source;
       within = refl;
     }

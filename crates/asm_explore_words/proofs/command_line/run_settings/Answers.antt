@@ -7,10 +7,10 @@ use Rattle.asm_explore_words.specs.WordsSaid.{are_both_input, one_run_refusals}
 use Rattle.asm_explore_words.proofs.WordKinds.{first_kinds, is_refusal}
 use Rattle.asm_explore_words.proofs.command_line.run_settings.Goals as goal
 
-pub returns-in_err-settings-clause-refused : goal.returns-in_err-settings-clause-refused
-returns-in_err-settings-clause-refused g c =
+pub returns-in_err-question-clause-refused : goal.returns-in_err-question-clause-refused
+returns-in_err-question-clause-refused g c =
     let p = err_from_is_err_and c.from_residual.result c.from_residual.ensures.1 in
     let words = map g.S.AsStr.text c.args.words.now in
-    let error = c.in_err-settings.field-0.0 in
-    let among = first_kinds (run_refusals words) (cond (are_both_input words) (ArgumentConflict ∷ []) []) error c.in_err-settings.ensures.refused in
+    let error = c.in_err-question.field-0.0 in
+    let among = first_kinds (run_refusals words) (cond (are_both_input words) (ArgumentConflict ∷ []) []) error c.in_err-question.ensures.refused in
     rw p.1 (is_refusal (one_run_refusals words) error p.0 among p.2)

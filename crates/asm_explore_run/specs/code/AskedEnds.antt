@@ -1,0 +1,19 @@
+-- Bridge to the code. How a run ends of which conditions are asked, as the code has it.
+--     IsFirstBrokenAsked      of the conditions with these texts one isn't true for the first time in
+--                             this state; or if there is none, each is true in all of the run
+use Rattle.std.specs.Prelude.{◌≤◌, ◌+◌, ℕ, List, Option, None, Some}
+use Rattle.asm_syntax.specs.SourceTree.{Spec, Term}
+use Rattle.asm_reader.specs.ScriptLines.{Script}
+use Rattle.asm_explore_texts.specs.Comments.{lines_of}
+use Rattle.asm_explore_texts.specs.Conditions.{AreAskedOf}
+use Rattle.asm_explore_report.specs.BrokenRuns.{HoldBefore, IsFirstBroken}
+use Rattle.asm_explore_report.specs.declared.broken_run.BrokenState.{BrokenState}
+
+module _ (s : Spec) (asked : List (List ℕ)) (turns : ℕ) (script : Script) (steps : ℕ) where
+  abbrev pub IsFoundOf : List Term → Option BrokenState → Type 0
+  IsFoundOf terms None = HoldBefore s terms turns script (steps + 1)
+  IsFoundOf terms (Some broken) =
+      (broken.steps ≤ steps) × IsFirstBroken s terms turns script broken.steps broken.told.words.items (lines_of broken.told.because.items)
+
+  abbrev pub IsFirstBrokenAsked : Option BrokenState → Type 0
+  IsFirstBrokenAsked found = (terms : List Term) × AreAskedOf s asked terms × IsFoundOf terms found
