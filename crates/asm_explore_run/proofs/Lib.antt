@@ -4,5 +4,6 @@ mod ClashLines
 mod KeySets
 mod RunStatuses
 mod ShortLines
+mod ShownRuns
 mod UnmetTexts
 mod WithoutReport

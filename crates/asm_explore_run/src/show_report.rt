@@ -54,8 +54,8 @@ fn unmet_of(
     script: &Script,
     steps: u32,
 ) -> Result<Vec<Vec<u8>>, AllocError>
-    ensures { IfOk result (λ unmet. (made : List (List Choice)) × AreChoices (spec_of checked.now.spec) turns script.now steps made
-        × (lines_of unmet.items ≡ unmet.unmet_lines script_text.now (lines_forward made))) }
+    ensures { IfOk result (λ lines. (made : List (List Choice)) × AreChoices (spec_of checked.now.spec) turns script.now steps made
+        × (lines_of lines.items ≡ unmet.unmet_lines script_text.now (lines_forward made))) }
 {
     let run = choices_of_run(alloc, checked, turns, script, steps)?;
     let made = lines_of_run(alloc, &run)?;
