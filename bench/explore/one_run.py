@@ -21,6 +21,15 @@ def shown_place(place):
     return place[0] + (f"({', '.join(map(str, place[1]))})" if place[1] else "")
 
 
+def shown_candidates(candidates, taken):
+    """The first candidates, that which is taken in brackets, even if it isn't one of the first, and how many others there are."""
+    words = [f"[{value}]" if number == taken else str(value) for number, value in enumerate(candidates)]
+    shown, others = ", ".join(words[:MOST_SHOWN]), len(words) - MOST_SHOWN
+    if taken >= MOST_SHOWN:
+        shown, others = f"{shown}, .. {words[taken]}", others - 1
+    return f"{shown}, and {others} more" if others > 0 else shown
+
+
 def words_of(places, scale, result):
     """What is wrong with what a step yields, if anything is, with the location: of these, the first that is wrong."""
     kind, what = result
@@ -173,10 +182,7 @@ class OneRun:
     # The answers
 
     def comment(self, choice):
-        shown = ", ".join(map(str, choice.candidates[:MOST_SHOWN]))
-        if len(choice.candidates) > MOST_SHOWN:
-            shown += f", and {len(choice.candidates) - MOST_SHOWN} more"
-        return f"# {self.position.of(choice.offset)}: choose {choice.name}: {shown}"
+        return f"# {self.position.of(choice.offset)}: choose {choice.name}: {shown_candidates(choice.candidates, choice.number)}"
 
     def of_choices(self):
         """What `choices` prints, and its status."""

@@ -4,13 +4,13 @@
 --     asked_more, all_more         what is asked in one choice more, and in one step more
 --     listed_first, listed_next    one candidate more
 --     candidates_told              the candidates of a choice
-use Rattle.std.proofs.Common.{◌≡◌, ◌∙◌, ◌+◌, ◌-◌, ◌<◌, ℕ, zero, suc, List, [], ◌∷◌, ◌++◌, length, map, min, take, get_or, codes, Vec, Global, append_assoc, append-nil, refl, inl, inr, sym, ap, arith}
-use Rattle.std.specs.List.{flat_map}
+use Rattle.std.proofs.Common.{◌≡◌, ◌∙◌, ◌+◌, ◌-◌, ◌<◌, ℕ, zero, suc, Option, List, [], ◌∷◌, ◌++◌, length, map, min, take, get_or, codes, Vec, Global, append_assoc, append-nil, refl, inl, inr, sym, ap, arith}
+use Rattle.std.specs.List.{enumerate_from, flat_map}
 use Rattle.std.proofs.lemmas.Grind.{flat_map-append}
 use Rattle.std.proofs.lemmas.Bool.{cases_lt}
 use Rattle.std.proofs.lemmas.List.{length-map, length-take-le, map-append, take_all, take_more}
 use Rattle.asm_state.specs.declared.value.Value.{Value}
-use Rattle.asm_run.specs.Trace.{TraceNames, value_text, values_text}
+use Rattle.asm_run.specs.Trace.{TraceNames}
 use Rattle.asm_explore.specs.declared.choices.choice_point.ChoicePoint.{ChoicePoint}
 use Rattle.asm_explore.specs.declared.outcomes.listed_outcome.Choice.{Choice}
 use Rattle.asm_explore.specs.ChoicePoints.{Asking}
@@ -18,7 +18,7 @@ use Rattle.asm_explore.specs.RunChoices.{asked_said, choices_made, lines_forward
 use Rattle.asm_explore.specs.code.AskedPieces.{all_said}
 use Rattle.asm_explore.specs.ChoiceLines.{lines_for}
 use Rattle.asm_explore_report.specs.declared.commented.Entry.{Entry}
-use Rattle.asm_explore_run.specs.ChoicesText.{AreEntriesOf, IsEntryOf, and_more, candidates_text, greatest_listed, listed}
+use Rattle.asm_explore_run.specs.ChoicesText.{AreEntriesOf, IsEntryOf, candidate_text, candidates_text, greatest_listed, listed, others_text, taken_behind}
 use Rattle.asm_reader.specs.ScriptLines.{Line}
 
 -- ---- lines
@@ -92,31 +92,43 @@ all_more steps k asked low is =
 
 -- ---- candidates
 
-module _ (names : TraceNames) where
-  values_more : (v : Value) (vs : List Value) (w : Value) → values_text names.elements v (vs ++ w ∷ []) ≡ values_text names.elements v vs ++ (codes ", " ++ value_text names.elements w)
-  values_more v [] w = refl
-  values_more v (u ∷ vs) w =
-      ap (λ t. value_text names.elements v ++ (codes ", " ++ t)) (values_more u vs w)
-      ∙ ap (λ t. value_text names.elements v ++ t) (sym (append_assoc (codes ", ") (values_text names.elements u vs) (codes ", " ++ value_text names.elements w)))
-      ∙ sym (append_assoc (value_text names.elements v) (codes ", " ++ values_text names.elements u vs) (codes ", " ++ value_text names.elements w))
+enumerated_more : {X : Type 0} (n : ℕ) (xs : List X) (y : X) (k : ℕ) → k ≡ n + length xs → enumerate_from n (xs ++ y ∷ []) ≡ enumerate_from n xs ++ (k, y) ∷ []
+enumerated_more n [] y k is = let same : n ≡ k = omega (arith, is) in ap (λ m. (m, y) ∷ []) same
+enumerated_more n (x ∷ xs) y k is = ap (λ ps. (n, x) ∷ ps) (enumerated_more (n + 1) xs y k (omega (arith, is)))
 
-  pub listed_first : (vs : List Value) (i : ℕ) (w : Value) (old new : List ℕ) → i < length vs → i ≡ 0 → w ≡ get_or vs i w → new ≡ (old ++ listed names (take i vs)) ++ value_text names.elements w
-      → new ≡ old ++ listed names (take (i + 1) vs)
+module _ (names : TraceNames) (taken : ℕ) where
+  abbrev next : ℕ × Value → List ℕ
+  next c = codes ", " ++ candidate_text names taken c
+
+  listed_more : (v : Value) (vs : List Value) (k : ℕ) (w : Value) → k ≡ suc (length vs) → listed names taken (v ∷ (vs ++ w ∷ [])) ≡ listed names taken (v ∷ vs) ++ next (k, w)
+  listed_more v vs k w is =
+      let first = candidate_text names taken (0, v) in
+      let others = flat_map next (enumerate_from 1 vs) in
+      ap (λ ps. first ++ flat_map next ps) (enumerated_more 1 vs w k (omega (arith, is)))
+      ∙ ap (λ t. first ++ t) (flat_map-append next (enumerate_from 1 vs) ((k, w) ∷ []) ∙ ap (λ t. others ++ t) (append-nil (next (k, w))))
+      ∙ sym (append_assoc first others (next (k, w)))
+
+  pub listed_first : (vs : List Value) (i : ℕ) (w : Value) (old new : List ℕ) → i < length vs → i ≡ 0 → w ≡ get_or vs i w
+      → new ≡ (old ++ listed names taken (take i vs)) ++ candidate_text names taken (i, w) → new ≡ old ++ listed names taken (take (i + 1) vs)
   listed_first [] i w old new low first is grown = absurd (omega (arith, low))
   listed_first (v ∷ vs) zero w old new low first is grown =
-      grown ∙ ap (λ t. t ++ value_text names.elements w) (append-nil old) ∙ ap (λ u. old ++ value_text names.elements u) is
+      grown ∙ ap (λ t. t ++ candidate_text names taken (0, w)) (append-nil old)
+      ∙ ap (λ u. old ++ candidate_text names taken (0, u)) is ∙ ap (λ t. old ++ t) (sym (append-nil (candidate_text names taken (0, v))))
   listed_first (v ∷ vs) (suc i) w old new low first is grown = absurd (omega (arith, first))
 
   pub listed_next : (vs : List Value) (i : ℕ) (w : Value) (old new : List ℕ) → i < length vs → 0 < i → w ≡ get_or vs i w
-      → new ≡ ((old ++ listed names (take i vs)) ++ codes ", ") ++ value_text names.elements w → new ≡ old ++ listed names (take (i + 1) vs)
+      → new ≡ ((old ++ listed names taken (take i vs)) ++ codes ", ") ++ candidate_text names taken (i, w) → new ≡ old ++ listed names taken (take (i + 1) vs)
   listed_next [] i w old new low later is grown = absurd (omega (arith, low))
   listed_next (v ∷ vs) zero w old new low later is grown = absurd (omega (arith, later))
   listed_next (v ∷ vs) (suc i) w old new low later is grown =
-      let before = values_text names.elements v (take i vs) in
+      let before = listed names taken (v ∷ take i vs) in
+      let count : suc i ≡ suc (length (take i vs)) = omega (arith, low, length-take-le i vs (omega (arith, low))) in
       let up : suc (i + 1) ≡ suc i + 1 = omega arith in
-      grown ∙ append_assoc (old ++ before) (codes ", ") (value_text names.elements w) ∙ append_assoc old before (codes ", " ++ value_text names.elements w)
-      ∙ ap (λ t. old ++ t) (sym (values_more v (take i vs) w) ∙ ap (values_text names.elements v) (sym (take_more vs i w (omega (arith, low)) ∙ ap (λ d. take i vs ++ d ∷ []) (sym is))))
-      ∙ ap (λ n. old ++ listed names (take n (v ∷ vs))) up
+      grown ∙ append_assoc (old ++ before) (codes ", ") (candidate_text names taken (suc i, w)) ∙ append_assoc old before (next (suc i, w))
+      ∙ ap (λ t. old ++ t)
+      (sym (listed_more v (take i vs) (suc i) w count)
+      ∙ ap (λ xs. listed names taken (v ∷ xs)) (sym (take_more vs i w (omega (arith, low)) ∙ ap (λ d. take i vs ++ d ∷ []) (sym is))))
+      ∙ ap (λ n. old ++ listed names taken (take n (v ∷ vs))) up
 
   -- the first candidates, and how many more there are
   first_shown : (vs : List Value) (shown : ℕ) → shown ≡ min (length vs) greatest_listed → take shown vs ≡ take greatest_listed vs
@@ -126,9 +138,10 @@ module _ (names : TraceNames) where
         | inr many ↦ let same : shown ≡ greatest_listed = omega (arith, is, many) in ap (λ n. take n vs) same
       ]
 
-  pub candidates_told : (vs : List Value) (shown : ℕ) (old middle new : List ℕ) → shown ≡ min (length vs) greatest_listed → middle ≡ old ++ listed names (take shown vs)
-      → new ≡ middle ++ and_more (length vs - shown) → new ≡ old ++ candidates_text names vs
-  candidates_told vs shown old middle new is first more =
+  pub candidates_told : (vs : List Value) (shown : ℕ) (behind : Option Value) (old middle new : List ℕ) → shown ≡ min (length vs) greatest_listed → behind ≡ taken_behind taken vs
+      → middle ≡ old ++ listed names taken (take shown vs) → new ≡ middle ++ others_text names (length vs - shown) behind → new ≡ old ++ candidates_text names taken vs
+  candidates_told vs shown behind old middle new is found first more =
       let left : length vs - shown ≡ length vs - greatest_listed = omega (arith, is) in
-      more ∙ (λ j. first j ++ and_more (left j)) ∙ append_assoc old (listed names (take shown vs)) (and_more (length vs - greatest_listed))
-      ∙ ap (λ xs. old ++ (listed names xs ++ and_more (length vs - greatest_listed))) (first_shown vs shown is)
+      let others = others_text names (length vs - greatest_listed) (taken_behind taken vs) in
+      more ∙ (λ j. first j ++ others_text names (left j) (found j)) ∙ append_assoc old (listed names taken (take shown vs)) others
+      ∙ ap (λ xs. old ++ (listed names taken xs ++ others)) (first_shown vs shown is)

@@ -1,25 +1,25 @@
 //! The comment for a choice.
-ghost use Rattle.std.specs.Prelude.{◌≡◌, ◌++◌, ◌-◌, ℕ, List, length, take, IfOk, OnOk};
+ghost use Rattle.std.specs.Prelude.{◌≡◌, ◌++◌, ◌-◌, ℕ, List, Some, cond, length, take, IfOk, OnOk};
 ghost use Rattle.asm_syntax.specs.code.Views.{spec_of};
+ghost use Rattle.asm_run.specs.Trace.{value_text};
 ghost use Rattle.asm_run.specs.Written.{names_in};
 ghost use Rattle.asm_explore.specs.RunChoices.{asked_said};
-ghost use Rattle.asm_explore_run.specs.ChoicesText.{IsChoose, IsChooseLine, and_more, candidates_text, choose_at, choose_on, listed};
+ghost use Rattle.asm_explore_run.specs.ChoicesText.{IsChoose, IsChooseLine, and_more, candidates_text, choose_at, choose_on, listed, others_text, taken_text};
+ghost use Rattle.asm_explore_run.specs.ChoicesText as behind;
 
 use asm_check::Checked;
 use asm_explore::ChoicePoint;
-use asm_explore_texts::position_text::{is_name_at, push_name, push_position};
-use asm_explore_texts::rule_in_text::rule_in_text;
+use asm_explore_texts::position_text::{push_name, push_position};
+use asm_explore_texts::variable_at::variable_at;
 use asm_run::locations::{push_path, push_value};
 use asm_state::word::Word;
-use asm_syntax::name::Name;
-use asm_syntax::rule::Rule;
 use std::alloc::{AllocError, Global};
 
 /// How many candidates are listed.
 const MAX_LISTED: usize = 64;
 
-/// Says of the `choose` of the main rule that asks for a choice where it is in the text, and which
-/// candidates it has.
+/// Says of the `choose` of the main rule that asks for a choice where it is in the text, which
+/// candidates it has, and which of them it takes.
 pub(crate) fn choose_line(
     alloc: Global,
     text: &[u8],
@@ -38,7 +38,13 @@ pub(crate) fn choose_line(
         asked.choice.path.as_slice(),
     )?;
     line.extend_from_slice(b": ")?;
-    push_candidates(alloc, &mut line, checked, asked.candidates.as_slice())?;
+    push_candidates(
+        alloc,
+        &mut line,
+        checked,
+        asked.candidates.as_slice(),
+        asked.choice.number as usize,
+    )?;
     Ok(line)
 }
 
@@ -53,9 +59,9 @@ fn push_choose(
 ) -> Result<(), AllocError>
     ensures { OnOk result ((words : List ℕ) × IsChoose text.now path.now words × (line.new.items ≡ line.old.items ++ words)) }
 {
-    match variable(alloc, checked, path)? {
-        Some(name) if is_name_at(text, name.at) => push_variable(alloc, line, text, name.at),
-        _ => push_place(line, path),
+    match variable_at(alloc, text, checked, path)? {
+        Some(at) => push_variable(alloc, line, text, at),
+        None => push_place(line, path),
     }
 }
 
@@ -84,33 +90,67 @@ fn push_place(line: &mut Vec<u8>, path: &[u64]) -> Result<(), AllocError>
     Ok(())
 }
 
-/// The variable of the `choose` at a path of the main rule, if the text has one there.
-fn variable<'c>(
-    alloc: Global,
-    checked: &'c Checked,
-    path: &[u64],
-) -> Result<Option<&'c Name>, AllocError> {
-    let place = rule_in_text(alloc, checked, path)?;
-    Ok(place.and_then(|place| match place.rule {
-        Rule::Choose { name, .. } => Some(name),
-        _ => None,
-    }))
-}
-
-/// Adds the first candidates, and how many more there are.
+/// Adds the first candidates, the one that is taken, which has this number, and how many more there
+/// are.
 fn push_candidates(
     alloc: Global,
     line: &mut Vec<u8>,
     checked: &Checked,
     candidates: &[Word],
+    taken: usize,
 ) -> Result<(), AllocError>
     ensures { let names = names_in (spec_of checked.now.spec) in
-        OnOk result (line.new.items ≡ line.old.items ++ candidates_text names candidates.now) }
+        OnOk result (line.new.items ≡ line.old.items ++ candidates_text names taken candidates.now) }
 {
     let shown = candidates.len().min(MAX_LISTED);
-    push_listed(line, checked, &candidates[..shown])?;
-    push_more(alloc, line, candidates.len() - shown)?;
+    push_listed(line, checked, &candidates[..shown], taken)?;
+    let behind = taken_behind(candidates, taken);
+    push_others(alloc, line, checked, candidates.len() - shown, behind)?;
     Ok(())
+}
+
+/// The candidate that is taken, which has this number, if it isn't listed.
+fn taken_behind(candidates: &[Word], taken: usize) -> Option<Word>
+    ensures { result ≡ behind.taken_behind taken candidates.now }
+{
+    if taken < MAX_LISTED {
+        return None;
+    }
+    candidates.get(taken).copied()
+}
+
+/// Adds the candidate that is taken, if it is one of so many others that aren't listed, and how many
+/// more there are.
+fn push_others(
+    alloc: Global,
+    line: &mut Vec<u8>,
+    checked: &Checked,
+    others: usize,
+    behind: Option<Word>,
+) -> Result<(), AllocError>
+    ensures { let names = names_in (spec_of checked.now.spec) in
+        OnOk result (line.new.items ≡ line.old.items ++ others_text names others behind) }
+{
+    match behind {
+        Some(value) => push_behind(alloc, line, checked, others, value),
+        None => push_more(alloc, line, others),
+    }
+}
+
+/// Adds a candidate that is taken and is one of so many others, and how many more there are.
+fn push_behind(
+    alloc: Global,
+    line: &mut Vec<u8>,
+    checked: &Checked,
+    others: usize,
+    value: Word,
+) -> Result<(), AllocError>
+    ensures { let names = names_in (spec_of checked.now.spec) in
+        OnOk result (line.new.items ≡ line.old.items ++ others_text names others (Some value)) }
+{
+    line.extend_from_slice(b", .. ")?;
+    push_taken(line, checked, value)?;
+    push_more(alloc, line, others.saturating_sub(1))
 }
 
 /// Adds how many more there are, if there are any.
@@ -124,16 +164,48 @@ fn push_more(alloc: Global, line: &mut Vec<u8>, more: usize) -> Result<(), Alloc
     Ok(())
 }
 
-/// Adds values, with a comma between each two.
-fn push_listed(line: &mut Vec<u8>, checked: &Checked, values: &[Word]) -> Result<(), AllocError>
+/// Adds candidates, with a comma between each two. The one with the number `taken` is marked.
+fn push_listed(
+    line: &mut Vec<u8>,
+    checked: &Checked,
+    values: &[Word],
+    taken: usize,
+) -> Result<(), AllocError>
     ensures { let names = names_in (spec_of checked.now.spec) in
-        OnOk result (line.new.items ≡ line.old.items ++ listed names values.now) }
+        OnOk result (line.new.items ≡ line.old.items ++ listed names taken values.now) }
 {
     for i in 0..values.len() {
         if i > 0 {
             line.extend_from_slice(b", ")?;
         }
-        push_value(line, checked, values[i])?;
+        push_candidate(line, checked, values[i], i == taken)?;
     }
     Ok(())
+}
+
+/// Adds a candidate, in brackets if it is taken.
+fn push_candidate(
+    line: &mut Vec<u8>,
+    checked: &Checked,
+    value: Word,
+    is_taken: bool,
+) -> Result<(), AllocError>
+    ensures { let names = names_in (spec_of checked.now.spec) in
+        OnOk result (line.new.items ≡ line.old.items ++ cond is_taken (taken_text names value) (value_text names.elements value)) }
+{
+    if is_taken {
+        push_taken(line, checked, value)
+    } else {
+        push_value(line, checked, value)
+    }
+}
+
+/// Adds a value in brackets.
+fn push_taken(line: &mut Vec<u8>, checked: &Checked, value: Word) -> Result<(), AllocError>
+    ensures { let names = names_in (spec_of checked.now.spec) in
+        OnOk result (line.new.items ≡ line.old.items ++ taken_text names value) }
+{
+    line.extend_from_slice(b"[")?;
+    push_value(line, checked, value)?;
+    line.extend_from_slice(b"]")
 }

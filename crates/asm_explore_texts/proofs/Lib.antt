@@ -2,4 +2,5 @@ mod Decoding
 mod LineParts
 mod LineStarts
 mod Links
+mod RuleNumbers
 mod CharactersOfUtf8

@@ -1,4 +1,5 @@
 pub mod Conditions
+pub mod Places
 pub mod Positions
 pub mod RefusedTexts
 pub mod code

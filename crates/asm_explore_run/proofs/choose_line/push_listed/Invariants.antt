@@ -6,4 +6,4 @@ use Rattle.asm_explore_run.proofs.choose_line.push_listed.Given as goal
 
 -- the values so far
 abbrev pub invariant-loop-i : goal.invariant-loop-i
-invariant-loop-i l = l.line.items ≡ l.fn.line.items ++ listed (names_in (spec_of l.checked.spec)) (take l.i l.values)
+invariant-loop-i l = l.line.items ≡ l.fn.line.items ++ listed (names_in (spec_of l.checked.spec)) l.taken (take l.i l.values)
