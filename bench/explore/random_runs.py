@@ -9,6 +9,7 @@ from typing import NamedTuple, Optional
 
 import model
 import reader
+from because import Reasons
 from one_run import shown_path, within, words_of
 
 # So many steps are made for shortening a run.
@@ -70,6 +71,15 @@ class Wrong(NamedTuple):
         return (self.fault == DEADLOCK) == (other.fault == DEADLOCK)
 
 
+class Broken(str):
+    """Words for a condition that isn't true, with the line that says why."""
+
+    def __new__(cls, words, because):
+        made = super().__new__(cls, words)
+        made.because = because
+        return made
+
+
 class Drawn(NamedTuple):
     """A run that was drawn: its draft, how many steps were made, and whether the last one went wrong."""
 
@@ -114,8 +124,11 @@ class Machine:
 
     def broken_in(self, state):
         """The first of the conditions that isn't true, in words."""
-        values = [model.Step(self.specification, self.turns, []).term(term, {}, state) for term in self.always]
-        return next((f"condition {number} is {value}" for number, value in enumerate(values, 1) if value != "true"), None)
+        for number, term in enumerate(self.always, 1):
+            value = model.Step(self.specification, self.turns, []).term(term, {}, state)
+            if value != "true":
+                return Broken(f"condition {number} is {value}", Reasons(self.specification, state).because(term))
+        return None
 
     def ends(self, state, result):
         """What a step from the state with this number comes to that yields this."""
@@ -301,9 +314,9 @@ def shown(condition):
     return condition if len(condition) <= SHOWN else f"{condition[:SHOWN]} .."
 
 
-def facts(question, found, first):
-    """What stands in the comments of an answer, but for the call of asm. The first of them is given."""
-    yield first
+def facts(question, found, *first):
+    """What stands in the comments of an answer, but for the call of asm. The first of them are given."""
+    yield from first
     for number, condition in enumerate(question.always, 1):
         yield f"condition {number}: {shown(condition)}"
     if question.when_quiet is not None:
@@ -347,5 +360,6 @@ def answer_of(question, found, wrong, lines, spec):
     """What is answered for a run that goes wrong, with the lines of its script."""
     turns = f" --turns {question.turns}" if question.turns != 1000 else ""
     call = f"asm --steps {wrong.shown_after()} --script THIS{turns}" + (f" {spec}" if spec != "-" else "")
-    comments = [*facts(question, found, wrong.said()), call]
+    because = [wrong.fault.because] if isinstance(wrong.fault, Broken) else []
+    comments = [*facts(question, found, wrong.said(), *because), call]
     return Answer([one.replace("\n", " ") for one in comments], lines, found)

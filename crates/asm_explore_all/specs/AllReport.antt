@@ -1,8 +1,10 @@
 -- Definition. What is printed of an exploration of all runs.
 --     status_of finding             the status
---     WordsTell                     the words are of the fault that is found, if there is one
---     IsReport                      the first comment says what is found, the others are the facts,
---                                   and the script is that of the run that is found
+--     WordsTell                     the words, and a line, are of the fault that is found, if there is
+--                                   one
+--     IsReport                      the first comment says what is found, the second why, if a
+--                                   condition isn't true, the others are the facts, and the script is
+--                                   that of the run that is found
 --     AreFilesOf files              the files for what is found of the specification with this text:
 --                                   of the graph of states and of the script to the first quiet
 --                                   state
@@ -45,23 +47,24 @@ status_of (finding.TooManyStates safe_to) = 5
 status_of (finding.TooManyOutcomes safe_to crowd) = 5
 status_of (finding.NoMemory safe_to) = 5
 
-abbrev pub WordsTell : Spec → List Term → (turns : ℕ) → Finding → (words : List ℕ) → Type 0
-WordsTell s terms turns (finding.BadStep bad) words = BadTells s terms turns bad words
-WordsTell s terms turns finding.WrongFirst words = IsBroken s terms (specification_of s).initial words
-WordsTell s terms turns finding.Closed words = ⊤
-WordsTell s terms turns (finding.SafeTo depth) words = ⊤
-WordsTell s terms turns (finding.TooManyStates safe_to) words = ⊤
-WordsTell s terms turns (finding.TooManyOutcomes safe_to crowd) words = ⊤
-WordsTell s terms turns (finding.NoMemory safe_to) words = ⊤
-WordsTell s terms turns (finding.Unwritten unwritten) words = words ≡ unwritten_words
+abbrev pub WordsTell : Spec → List Term → (turns : ℕ) → Finding → (words : List ℕ) → (lines : List (List ℕ)) → Type 0
+WordsTell s terms turns (finding.BadStep bad) words lines = BadTells s terms turns bad words lines
+WordsTell s terms turns finding.WrongFirst words lines = IsBroken s terms (specification_of s).initial words lines
+WordsTell s terms turns finding.Closed words lines = lines ≡ []
+WordsTell s terms turns (finding.SafeTo depth) words lines = lines ≡ []
+WordsTell s terms turns (finding.TooManyStates safe_to) words lines = lines ≡ []
+WordsTell s terms turns (finding.TooManyOutcomes safe_to crowd) words lines = lines ≡ []
+WordsTell s terms turns (finding.NoMemory safe_to) words lines = lines ≡ []
+WordsTell s terms turns (finding.Unwritten unwritten) words lines = (words ≡ unwritten_words) × (lines ≡ [])
 
 module _ (text : List ℕ) (conditions : Conditions) (settings : Settings) where
   pub record IsReport (asked : AskedQuestion) (terms : List Term) (answer : ExplorationResult) (graph : List (List ℕ)) (printed : List ℕ) : Type 0 where
     pub words : List ℕ
-    pub tell : WordsTell asked.spec terms asked.turns answer.finding words
+    pub because : List (List ℕ)
+    pub tell : WordsTell asked.spec terms asked.turns answer.finding words because
     pub facts : List (List ℕ)
     pub are_facts : AreFacts text conditions settings answer graph facts
-    pub are_printed : IsPrinted text asked.turns settings.trace (first_line answer.finding words) facts (shown_in answer.finding) printed
+    pub are_printed : IsPrinted text asked.turns settings.trace (first_line answer.finding words) (because ++ facts) (shown_in answer.finding) printed
 
   pub record AreFilesOf (files : List MadeFile) : Type 0 where
     pub answer : ExplorationResult

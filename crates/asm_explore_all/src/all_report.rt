@@ -5,6 +5,7 @@ ghost use Rattle.asm_syntax.specs.code.Views.{spec_of};
 ghost use Rattle.asm_syntax.specs.declared.term.Term.{Term as Code};
 ghost use Rattle.asm_run.specs.Headline.{IsAccepted};
 ghost use Rattle.asm_explore_texts.specs.code.CodedConditions.{IsJoined, terms_in};
+ghost use Rattle.asm_explore_report.specs.Comments.{lines_of};
 ghost use Rattle.asm_explore_all.specs.AllReport.{ExplainsAll, IsReport, IsReportedBy, WordsTell, status_of as found_status};
 ghost use Rattle.asm_explore_all.specs.code.CodedQuestions.{IsAskedBy, plain};
 ghost use Rattle.asm_explore_all.specs.code.GraphFiles.{graph_lines};
@@ -16,10 +17,12 @@ use crate::finding_line::finding_line;
 use crate::graph_file::{GraphFile, draw};
 use crate::quiet_file::write_script;
 use asm_explore::{ExplorationResult, Finding, Progress, Watch};
+use asm_explore_report::facts::behind;
 use asm_explore_report::fault_words::{Subject, UNWRITTEN, bad_words, first_words};
 use asm_explore_report::laws::all_asked_law;
 use asm_explore_report::printed::printed;
 use asm_explore_report::report::Report;
+use asm_explore_report::told::Told;
 use asm_explore_texts::conditions::Conditions;
 use asm_explore_words::fault::{Fault, Unshown};
 use asm_explore_words::settings::Settings;
@@ -46,19 +49,22 @@ fn words_of<R: Threads + Sync>(
     text: &[u8],
     subject: &Subject<'_>,
     finding: &Finding,
-) -> Result<Vec<u8>, Unshown>
+) -> Result<Told, Unshown>
     ensures { (links : List (Op × Code)) → IsJoined links subject.now.always.now → IsAccepted text.now (spec_of subject.now.checked.now.spec) →
-        IfOk result (λ words. WordsTell (spec_of subject.now.checked.now.spec) (terms_in links) subject.now.turns finding.now words.items) }
+        IfOk result (λ told. WordsTell (spec_of subject.now.checked.now.spec) (terms_in links) subject.now.turns finding.now told.words.items (lines_of told.because.items)) }
 {
     match finding {
         Finding::BadStep(bad) => bad_words(rt, alloc, text, subject, bad),
         Finding::WrongFirst => first_words(alloc, subject),
-        Finding::Unwritten(_) => Ok(Vec::from_slice(alloc, UNWRITTEN)?),
+        Finding::Unwritten(_) => {
+            let words = Vec::from_slice(alloc, UNWRITTEN)?;
+            Ok(Told::alone(alloc, words))
+        }
         Finding::Closed
         | Finding::SafeTo(_)
         | Finding::TooManyStates(_)
         | Finding::TooManyOutcomes { .. }
-        | Finding::NoMemory(_) => Ok(Vec::new(alloc)),
+        | Finding::NoMemory(_) => Ok(Told::alone(alloc, Vec::new(alloc))),
     }
 }
 
@@ -83,9 +89,10 @@ fn printed_of<R: Threads + Sync>(
         always: &asked.question.always,
         turns: asked.question.turns,
     };
-    let words = words_of(rt, alloc, text, &subject, finding)?;
+    let Told { words, because } = words_of(rt, alloc, text, &subject, finding)?;
     let first = finding_line(alloc, finding, words.as_slice())?;
     let facts = facts(alloc, text, asked, conditions, settings, answered, drawing)?;
+    let lines = behind(because, facts)?;
     let whole = printed(
         rt,
         alloc,
@@ -93,7 +100,7 @@ fn printed_of<R: Threads + Sync>(
         subject.turns,
         settings.trace,
         first.as_slice(),
-        facts.as_slice(),
+        lines.as_slice(),
         shown_run(finding),
     )?;
     Ok(whole)

@@ -4,16 +4,18 @@
 --     IsRandomAsked              the specification of the text, and a question with the terms of the
 --                                conditions
 --     random_status finding      1 if a fault is found, and else 0
---     RandomTells                the words are of the fault that is found, as `WordsTell` says it
+--     RandomTells                the words, and a line, are of the fault that is found, as
+--                                `WordsTell` says it
 --     random_line                what is found, in a line; these words describe the fault, if there
 --                                is one
---     IsRandomReport             the first comment says what is found, the others are the facts, and
---                                the script is that of the run that is found
+--     IsRandomReport             the first comment says what is found, the second why, if a condition
+--                                isn't true, the others are the facts, and the script is that of the
+--                                run that is found
 --     IsRandomReported           what is printed says what is found of the specification with this
 --                                text
 --     ExplainsRandom             why there is no report: a text is refused, memory ran out, or of what
 --                                is asked the run that was found isn't confirmed
-use Rattle.std.specs.Prelude.{◌≡◌, ℕ, List, ◌++◌, Option, codes, decimal, ⊤}
+use Rattle.std.specs.Prelude.{◌≡◌, ℕ, List, [], ◌++◌, Option, codes, decimal, ⊤}
 use Rattle.asm_syntax.specs.SourceTree.{Spec, Term}
 use Rattle.asm_meaning.specs.Declarations.{specification_of}
 use Rattle.asm_explore.specs.Conditions.{condition_holds}
@@ -66,11 +68,11 @@ random_status (random.Bad number bad) = 1
 random_status random.WrongFirst = 1
 random_status (random.Unwritten unwritten) = 1
 
-abbrev pub RandomTells : Spec → List Term → (turns : ℕ) → RandomFinding → (words : List ℕ) → Type 0
-RandomTells s terms turns random.Nothing words = ⊤
-RandomTells s terms turns (random.Bad number bad) words = BadTells s terms turns bad words
-RandomTells s terms turns random.WrongFirst words = IsBroken s terms (specification_of s).initial words
-RandomTells s terms turns (random.Unwritten unwritten) words = words ≡ unwritten_words
+abbrev pub RandomTells : Spec → List Term → (turns : ℕ) → RandomFinding → (words : List ℕ) → (lines : List (List ℕ)) → Type 0
+RandomTells s terms turns random.Nothing words lines = lines ≡ []
+RandomTells s terms turns (random.Bad number bad) words lines = BadTells s terms turns bad words lines
+RandomTells s terms turns random.WrongFirst words lines = IsBroken s terms (specification_of s).initial words lines
+RandomTells s terms turns (random.Unwritten unwritten) words lines = (words ≡ unwritten_words) × (lines ≡ [])
 
 -- of `runs` runs that were made, of at most `steps` steps
 abbrev pub random_line : (runs steps : ℕ) → RandomFinding → (words : List ℕ) → List ℕ
@@ -82,9 +84,10 @@ random_line runs steps (random.Unwritten unwritten) words = fault_line unwritten
 module _ (text : List ℕ) (conditions : Conditions) (settings : RandomSettings) where
   pub record IsRandomReport (asked : AskedRuns) (terms : List Term) (answer : RandomResult) (printed : List ℕ) : Type 0 where
     pub words : List ℕ
-    pub tell : RandomTells asked.spec terms asked.turns answer.finding words
+    pub because : List (List ℕ)
+    pub tell : RandomTells asked.spec terms asked.turns answer.finding words because
     pub are_printed :
-        IsPrinted text asked.turns settings.trace (random_line answer.runs asked.steps answer.finding words) (random_facts conditions settings answer)
+        IsPrinted text asked.turns settings.trace (random_line answer.runs asked.steps answer.finding words) (because ++ random_facts conditions settings answer)
         (shown_in answer.finding) printed
 
   pub record IsRandomReported (report : Report) : Type 0 where

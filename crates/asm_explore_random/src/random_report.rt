@@ -6,16 +6,19 @@ ghost use Rattle.asm_syntax.specs.declared.term.Term.{Term as Code};
 ghost use Rattle.asm_run.specs.Headline.{IsAccepted};
 ghost use Rattle.asm_explore_texts.specs.code.CodedConditions.{IsJoined, terms_in};
 ghost use Rattle.asm_explore_random.specs.code.CodedRuns.{IsAskedBy, plain};
+ghost use Rattle.asm_explore_report.specs.Comments.{lines_of};
 ghost use Rattle.asm_explore_random.specs.RandomReport.{ExplainsRandom, IsRandomReport, IsRandomReported, RandomTells, random_line, random_status};
 
 use crate::random_asked::{CheckedRandomQuestion, ask_random};
 use crate::random_facts::{random_facts, shown_run};
 use asm_explore::Watch;
+use asm_explore_report::facts::behind;
 use asm_explore_report::fault_words::{Subject, UNWRITTEN, bad_words, first_words};
 use asm_explore_report::first_line::{of_fault, of_first};
 use asm_explore_report::laws::all_asked_law;
 use asm_explore_report::printed::printed;
 use asm_explore_report::report::Report;
+use asm_explore_report::told::Told;
 use asm_explore_texts::conditions::Conditions;
 use asm_explore_words::fault::{Fault, Unshown};
 use asm_explore_words::settings::RandomSettings;
@@ -40,15 +43,18 @@ fn words_of<R: Threads + Sync>(
     text: &[u8],
     subject: &Subject<'_>,
     finding: &RandomFinding,
-) -> Result<Vec<u8>, Unshown>
+) -> Result<Told, Unshown>
     ensures { (links : List (Op × Code)) → IsJoined links subject.now.always.now → IsAccepted text.now (spec_of subject.now.checked.now.spec) →
-        IfOk result (λ words. RandomTells (spec_of subject.now.checked.now.spec) (terms_in links) subject.now.turns finding.now words.items) }
+        IfOk result (λ told. RandomTells (spec_of subject.now.checked.now.spec) (terms_in links) subject.now.turns finding.now told.words.items (lines_of told.because.items)) }
 {
     match finding {
-        RandomFinding::Nothing => Ok(Vec::new(alloc)),
+        RandomFinding::Nothing => Ok(Told::alone(alloc, Vec::new(alloc))),
         RandomFinding::Bad { bad, .. } => bad_words(rt, alloc, text, subject, bad),
         RandomFinding::WrongFirst => first_words(alloc, subject),
-        RandomFinding::Unwritten(_) => Ok(Vec::from_slice(alloc, UNWRITTEN)?),
+        RandomFinding::Unwritten(_) => {
+            let words = Vec::from_slice(alloc, UNWRITTEN)?;
+            Ok(Told::alone(alloc, words))
+        }
     }
 }
 
@@ -96,9 +102,10 @@ fn printed_of<R: Threads + Sync>(
         turns: asked.question.turns,
     };
     let steps = asked.question.steps;
-    let words = words_of(rt, alloc, text, &subject, finding)?;
+    let Told { words, because } = words_of(rt, alloc, text, &subject, finding)?;
     let first = line_of(alloc, answer.runs, steps, finding, words.as_slice())?;
     let facts = random_facts(alloc, conditions, settings, answer)?;
+    let lines = behind(because, facts)?;
     let whole = printed(
         rt,
         alloc,
@@ -106,7 +113,7 @@ fn printed_of<R: Threads + Sync>(
         subject.turns,
         settings.trace,
         first.as_slice(),
-        facts.as_slice(),
+        lines.as_slice(),
         shown_run(finding),
     )?;
     Ok(whole)

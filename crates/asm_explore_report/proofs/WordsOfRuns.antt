@@ -3,7 +3,7 @@
 --     end_tells        the words for the end
 --     wrong_tells      the words of the last state
 --     deadlock_tells   the word for a deadlock
-use Rattle.std.proofs.Common.{◌≡◌, ◌⊎◌, ℕ, List, inl, inr, sym, subst, codes}
+use Rattle.std.proofs.Common.{◌≡◌, ◌⊎◌, ℕ, List, [], inl, inr, sym, subst, codes}
 use Rattle.asm_state.specs.Location.{State}
 use Rattle.asm_syntax.specs.SourceTree.{Spec, Term}
 use Rattle.asm_reader.specs.ScriptLines.{Script}
@@ -23,25 +23,27 @@ module _ (spec : Spec) (terms : List Term) (turns : ℕ) (text : List ℕ) (step
   Ends fault words = (script : Script) → IsScript text script →
       let end = (book_run spec turns script (steps_to fault step)).end in EndsBy fault step end × IsEndWords (names_in spec) end words
 
-  pub end_tells : (fault : Fault) (words : List ℕ) → (fault ≡ Exhausted) ⊎ (fault ≡ Inconsistent) → Ends fault words → FaultTells spec terms turns fault text step words
-  end_tells Exhausted words is told = told
-  end_tells Inconsistent words is told = told
-  end_tells Wrong words (inl is) told = cc
-  end_tells Wrong words (inr is) told = cc
-  end_tells Deadlock words (inl is) told = cc
-  end_tells Deadlock words (inr is) told = cc
+  pub end_tells : (fault : Fault) (words : List ℕ) (lines : List (List ℕ)) → (fault ≡ Exhausted) ⊎ (fault ≡ Inconsistent) → lines ≡ [] → Ends fault words
+      → FaultTells spec terms turns fault text step words lines
+  end_tells Exhausted words lines is none told = λ script spelled. ((told script spelled).0, ((told script spelled).1, none))
+  end_tells Inconsistent words lines is none told = λ script spelled. ((told script spelled).0, ((told script spelled).1, none))
+  end_tells Wrong words lines (inl is) none told = cc
+  end_tells Wrong words lines (inr is) none told = cc
+  end_tells Deadlock words lines (inl is) none told = cc
+  end_tells Deadlock words lines (inr is) none told = cc
 
-  pub wrong_tells : (fault : Fault) (A : State) (end words : List ℕ) → fault ≡ Wrong → Ends fault end
+  pub wrong_tells : (fault : Fault) (A : State) (end words : List ℕ) (lines : List (List ℕ)) → fault ≡ Wrong → Ends fault end
       → ((script : Script) → IsScript text script → IsAfter (specification_of spec) turns script (steps_to fault step) A)
-      → IsBroken spec terms A words → FaultTells spec terms turns fault text step words
-  wrong_tells Exhausted A end words is told after broken = cc
-  wrong_tells Inconsistent A end words is told after broken = cc
-  wrong_tells Deadlock A end words is told after broken = cc
-  wrong_tells Wrong A end words is told after broken =
-      λ script spelled. ((told script spelled).0, subst (λ B. IsBroken spec terms B words) (sym (after script spelled).1) broken)
+      → IsBroken spec terms A words lines → FaultTells spec terms turns fault text step words lines
+  wrong_tells Exhausted A end words lines is told after broken = cc
+  wrong_tells Inconsistent A end words lines is told after broken = cc
+  wrong_tells Deadlock A end words lines is told after broken = cc
+  wrong_tells Wrong A end words lines is told after broken =
+      λ script spelled. ((told script spelled).0, subst (λ B. IsBroken spec terms B words lines) (sym (after script spelled).1) broken)
 
-  pub deadlock_tells : (fault : Fault) (end words : List ℕ) → fault ≡ Deadlock → Ends fault end → words ≡ codes "deadlock" → FaultTells spec terms turns fault text step words
-  deadlock_tells Exhausted end words is told named = cc
-  deadlock_tells Inconsistent end words is told named = cc
-  deadlock_tells Wrong end words is told named = cc
-  deadlock_tells Deadlock end words is told named = λ script spelled. ((told script spelled).0, named)
+  pub deadlock_tells : (fault : Fault) (end words : List ℕ) (lines : List (List ℕ)) → fault ≡ Deadlock → Ends fault end → words ≡ codes "deadlock" → lines ≡ []
+      → FaultTells spec terms turns fault text step words lines
+  deadlock_tells Exhausted end words lines is told named none = cc
+  deadlock_tells Inconsistent end words lines is told named none = cc
+  deadlock_tells Wrong end words lines is told named none = cc
+  deadlock_tells Deadlock end words lines is told named none = λ script spelled. ((told script spelled).0, (named, none))

@@ -1,14 +1,15 @@
 -- Definition. The words for the fault that is found.
 --     value_in spec t A                the value of a term in a state, with no name bound
---     IsBroken spec terms A words      of the conditions the first that isn't true in the state:
---                                      its number, from 1, and its value
+--     IsBroken spec terms A words lines
+--                                      of the conditions the first that isn't true in the state:
+--                                      its number, from 1, and its value; and a line that says why
 --     unwritten_words                  what is said of a run whose script can't be written
 --     EndsBy fault step end            a run that shows the fault of this step ends so
 --     AreFaultWords                    the words are those for the end of the run, as its trace has
---                                      them, or of its last state; a deadlock is called so
+--                                      them, or of its last state, with a line; a deadlock is called so
 --     FaultTells, BadTells             the run that was found ends by the fault, in its step, and
---                                      these are its words
-use Rattle.std.specs.Prelude.{◌≡◌, ℕ, suc, true, false, List, ◌∷◌, ◌++◌, length, codes, decimal}
+--                                      these are its words and lines
+use Rattle.std.specs.Prelude.{◌≡◌, ℕ, suc, true, false, List, [], ◌∷◌, ◌++◌, length, codes, decimal}
 use Rattle.std.specs.String.{string_bytes}
 use Rattle.std.specs.List.{list_all}
 use Rattle.asm_state.specs.Location.{State}
@@ -27,6 +28,7 @@ use Rattle.asm_explore.specs.declared.fault.Fault.{Fault}
 use Rattle.asm_explore.specs.declared.fault.Fault.TheVariants.{Exhausted, Inconsistent, Wrong, Deadlock}
 use Rattle.asm_run.specs.Trace.{value_text}
 use Rattle.asm_run.specs.Written.{names_in}
+use Rattle.asm_explore_because.specs.Because.{IsBecause}
 use Rattle.asm_explore_report.specs.EndWords.{IsEndWords}
 
 abbrev pub value_in : Spec → Term → State → Value
@@ -35,7 +37,7 @@ value_in s t A = value (program_of s) A nothing_bound (plain_term t)
 abbrev pub broken_words : Spec → (number : ℕ) → Value → List ℕ
 broken_words s number v = codes "condition " ++ (decimal number ++ (codes " is " ++ value_text (names_in s).elements v))
 
-pub record IsBroken (s : Spec) (terms : List Term) (A : State) (words : List ℕ) : Type 0 where
+pub record IsBroken (s : Spec) (terms : List Term) (A : State) (words : List ℕ) (lines : List (List ℕ)) : Type 0 where
   pub before : List Term
   pub one : Term
   pub after : List Term
@@ -43,6 +45,10 @@ pub record IsBroken (s : Spec) (terms : List Term) (A : State) (words : List ℕ
   pub held : list_all (λ t. is_true (value_in s t A)) before ≡ true
   pub broken : is_true (value_in s one A) ≡ false
   pub are : words ≡ broken_words s (suc (length before)) (value_in s one A)
+  -- why it isn't
+  pub line : List ℕ
+  pub because : IsBecause s A one line
+  pub is_line : lines ≡ line ∷ []
 
 abbrev pub unwritten_words : List ℕ
 unwritten_words = codes "its script can't be written"
@@ -56,16 +62,16 @@ EndsBy Deadlock step AtLimit = Unit {0}
 EndsBy fault step end = ⊥
 
 module _ (s : Spec) (terms : List Term) (turns : ℕ) where
-  abbrev pub AreFaultWords : Fault → Run → (words : List ℕ) → Type 0
-  AreFaultWords Exhausted r words = IsEndWords (names_in s) r.end words
-  AreFaultWords Inconsistent r words = IsEndWords (names_in s) r.end words
-  AreFaultWords Wrong r words = IsBroken s terms r.last words
-  AreFaultWords Deadlock r words = words ≡ codes "deadlock"
+  abbrev pub AreFaultWords : Fault → Run → (words : List ℕ) → (lines : List (List ℕ)) → Type 0
+  AreFaultWords Exhausted r words lines = IsEndWords (names_in s) r.end words × (lines ≡ [])
+  AreFaultWords Inconsistent r words lines = IsEndWords (names_in s) r.end words × (lines ≡ [])
+  AreFaultWords Wrong r words lines = IsBroken s terms r.last words lines
+  AreFaultWords Deadlock r words lines = (words ≡ codes "deadlock") × (lines ≡ [])
 
   -- of the run under the script with this text
-  abbrev pub FaultTells : Fault → (script_text : List ℕ) → (step : ℕ) → (words : List ℕ) → Type 0
-  FaultTells fault script_text step words = (script : Script) → IsScript script_text script →
-      let r = run (specification_of s) turns script (steps_to fault step) in EndsBy fault step r.end × AreFaultWords fault r words
+  abbrev pub FaultTells : Fault → (script_text : List ℕ) → (step : ℕ) → (words : List ℕ) → (lines : List (List ℕ)) → Type 0
+  FaultTells fault script_text step words lines = (script : Script) → IsScript script_text script →
+      let r = run (specification_of s) turns script (steps_to fault step) in EndsBy fault step r.end × AreFaultWords fault r words lines
 
-  abbrev pub BadTells : BadRun → (words : List ℕ) → Type 0
-  BadTells bad words = FaultTells bad.fault (string_bytes bad.script) bad.step words
+  abbrev pub BadTells : BadRun → (words : List ℕ) → (lines : List (List ℕ)) → Type 0
+  BadTells bad words lines = FaultTells bad.fault (string_bytes bad.script) bad.step words lines

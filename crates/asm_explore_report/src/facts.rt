@@ -98,3 +98,12 @@ pub fn looked_for(alloc: Global, conditions: usize) -> Result<String, AllocError
     }
     Ok(line)
 }
+
+/// Lines, and others behind them.
+pub fn behind(first: Vec<Vec<u8>>, others: Vec<Vec<u8>>) -> Result<Vec<Vec<u8>>, AllocError>
+    ensures { IfOk result (λ lines. lines_of lines.items ≡ lines_of first.items ++ lines_of others.items) }
+{
+    let (mut lines, mut others) = (first, others);
+    lines.append(&mut others)?;
+    Ok(lines)
+}

@@ -18,11 +18,13 @@ ghost use Rattle.asm_explore.specs.Search.{steps_to};
 ghost use Rattle.asm_run.specs.Headline.{IsAccepted};
 ghost use Rattle.asm_explore_texts.specs.code.CodedConditions.{IsJoined, terms_in};
 ghost use Rattle.asm_meaning.specs.Run.{IsAfter};
+ghost use Rattle.asm_explore_report.specs.Comments.{lines_of};
 ghost use Rattle.asm_explore_report.specs.FaultWords.{BadTells, IsBroken};
 
 use crate::broken_condition::broken_in;
 use crate::confirm_run::end_words;
 use crate::shown_run::run_of;
+use crate::told::Told;
 use asm_check::Checked;
 use asm_explore::{BadRun, Fault as StepFault};
 use asm_explore_words::fault::Unshown;
@@ -47,14 +49,14 @@ pub struct Subject<'s> {
     pub turns: u32,
 }
 
-/// The words for a state in which a condition isn't true.
-fn words_in(alloc: Global, subject: &Subject<'_>, state: &State) -> Result<Vec<u8>, Unshown>
+/// The words for a state in which a condition isn't true, with a line that says why.
+fn words_in(alloc: Global, subject: &Subject<'_>, state: &State) -> Result<Told, Unshown>
     requires { length state.now ≡ count_of (shape_of (spec_of subject.now.checked.now.spec)) }
     ensures { (links : List (Op × Code)) → IsJoined links subject.now.always.now →
-        IfOk result (λ words. IsBroken (spec_of subject.now.checked.now.spec) (terms_in links) (state_of (shape_of (spec_of subject.now.checked.now.spec)) state.now) words.items) }
+        IfOk result (λ told. IsBroken (spec_of subject.now.checked.now.spec) (terms_in links) (state_of (shape_of (spec_of subject.now.checked.now.spec)) state.now) told.words.items (lines_of told.because.items)) }
 {
     match broken_in(alloc, subject.checked, subject.always, state)? {
-        Some(words) => Ok(words),
+        Some(told) => Ok(told),
         None => Err(Unshown::Unconfirmed),
     }
 }
@@ -105,35 +107,38 @@ fn last_state(alloc: Global, subject: &Subject<'_>, bad: &BadRun) -> Result<Stat
     }
 }
 
-/// The words for a first state in which a condition isn't true.
-pub fn first_words(alloc: Global, subject: &Subject<'_>) -> Result<Vec<u8>, Unshown>
+/// The words for a first state in which a condition isn't true, with a line that says why.
+pub fn first_words(alloc: Global, subject: &Subject<'_>) -> Result<Told, Unshown>
     ensures { (links : List (Op × Code)) → IsJoined links subject.now.always.now →
-        IfOk result (λ words. IsBroken (spec_of subject.now.checked.now.spec) (terms_in links) (specification_of (spec_of subject.now.checked.now.spec)).initial words.items) }
+        IfOk result (λ told. IsBroken (spec_of subject.now.checked.now.spec) (terms_in links) (specification_of (spec_of subject.now.checked.now.spec)).initial told.words.items (lines_of told.because.items)) }
 {
     let first = State::initial(alloc, subject.checked.signature())?;
-    let words = words_in(alloc, subject, &first)?;
-    Ok(words)
+    let told = words_in(alloc, subject, &first)?;
+    Ok(told)
 }
 
 /// The words for a run that goes wrong of the specification with this text, which is that of the
-/// subject. The run is made again.
+/// subject; with a line that says why, if a condition isn't true. The run is made again.
 pub fn bad_words<R: Threads + Sync>(
     rt: &R,
     alloc: Global,
     text: &[u8],
     subject: &Subject<'_>,
     bad: &BadRun,
-) -> Result<Vec<u8>, Unshown>
+) -> Result<Told, Unshown>
     ensures { (links : List (Op × Code)) → IsJoined links subject.now.always.now → IsAccepted text.now (spec_of subject.now.checked.now.spec) →
-        IfOk result (λ words. BadTells (spec_of subject.now.checked.now.spec) (terms_in links) subject.now.turns bad.now words.items) }
+        IfOk result (λ told. BadTells (spec_of subject.now.checked.now.spec) (terms_in links) subject.now.turns bad.now told.words.items (lines_of told.because.items)) }
 {
     let end = end_words(rt, alloc, text, subject.checked, subject.turns, bad)?;
     match bad.fault {
-        StepFault::Exhausted | StepFault::Inconsistent => Ok(end),
+        StepFault::Exhausted | StepFault::Inconsistent => Ok(Told::alone(alloc, end)),
         StepFault::Wrong => {
             let last = last_state(alloc, subject, bad)?;
             words_in(alloc, subject, &last)
         }
-        StepFault::Deadlock => Ok(Vec::from_slice(alloc, b"deadlock")?),
+        StepFault::Deadlock => {
+            let words = Vec::from_slice(alloc, b"deadlock")?;
+            Ok(Told::alone(alloc, words))
+        }
     }
 }

@@ -16,4 +16,5 @@ pub mod laws;
 pub mod printed;
 pub mod report;
 pub mod shown_run;
+pub mod told;
 mod trace_lines;

@@ -5,3 +5,4 @@ pub mod NoFiles
 mod NoReports
 mod OutputBytes
 mod ReportStatuses
+mod ToldReports

@@ -11,7 +11,7 @@ use Rattle.asm_explore_words.specs.declared.fault.Fault.TheVariants as cause
 use Rattle.asm_explore_words.specs.declared.fault.Source.{Source}
 use Rattle.asm_explore_words.specs.declared.settings.Task.{Task}
 use Rattle.asm_explore_words.specs.declared.settings.Task.TheVariants as task
-use Rattle.asm_explore_tool.specs.Faults.{IsUnread, fault_of_report}
+use Rattle.asm_explore_tool.specs.Faults.{IsToldOf, IsUnread}
 use Rattle.asm_explore_tool.specs.Outputs.{ExplainsTask, IsUnwritten, IsWithoutReport}
 use Rattle.asm_explore_tool.specs.declared.no_answer.NoAnswer.{NoAnswer}
 use Rattle.asm_explore_tool.specs.declared.no_answer.NoAnswer.TheVariants.{Words, NotText, Text as Refused, Memory, File, Write, Graph, QuietScript, Unconfirmed}
@@ -27,18 +27,18 @@ IsOfReport NotText = ⊥
 IsOfReport Write = ⊥
 IsOfReport fault = ⊤
 
-of_cause : (fault : Fault) → IsOfReport (fault_of_report fault)
-of_cause (cause.Text refused) = tt
-of_cause cause.Memory = tt
-of_cause (cause.Graph name) = tt
-of_cause (cause.QuietScript name) = tt
-of_cause cause.Unconfirmed = tt
+of_cause : (text : List ℕ) (why : Fault) (fault : NoAnswer) → IsToldOf text why fault → IsOfReport fault
+of_cause text (cause.Text refused) fault is = subst IsOfReport (sym is.2) tt
+of_cause text cause.Memory fault is = subst IsOfReport (sym is) tt
+of_cause text (cause.Graph name) fault is = subst IsOfReport (sym is) tt
+of_cause text (cause.QuietScript name) fault is = subst IsOfReport (sym is) tt
+of_cause text cause.Unconfirmed fault is = subst IsOfReport (sym is) tt
 
 of_unread : (Names : Source → Type 0) (fault : NoAnswer) → IsUnread Names fault → IsOfReport fault
 of_unread Names (Words error) is = is.1
 of_unread Names NotText is = is.1
 of_unread Names Write is = is.1
-of_unread Names (Refused refused) is = tt
+of_unread Names (Refused refused specification) is = tt
 of_unread Names Memory is = tt
 of_unread Names (File source) is = tt
 of_unread Names (Graph name) is = tt
@@ -48,13 +48,13 @@ of_unread Names Unconfirmed is = tt
 module _ (contents : Text → Option (List ℕ)) (input : Option (List ℕ)) (before after : Option (List MadeFile)) where
   of_task : (asked : Task) (fault : NoAnswer) → ExplainsTask contents input before after asked fault → IsOfReport fault
   of_task (task.All settings) fault (inl unread) = of_unread _ fault unread.0
-  of_task (task.All settings) fault (inr is) = subst IsOfReport (sym is.is) (of_cause is.cause)
+  of_task (task.All settings) fault (inr is) = of_cause is.text is.cause fault is.is
   of_task (task.Random settings) fault (none, inl unread) = of_unread _ fault unread
-  of_task (task.Random settings) fault (none, inr is) = subst IsOfReport (sym is.is) (of_cause is.cause)
+  of_task (task.Random settings) fault (none, inr is) = of_cause is.text is.cause fault is.is
   of_task (task.Choices settings) fault (none, inl unread) = of_unread _ fault unread
-  of_task (task.Choices settings) fault (none, inr is) = subst IsOfReport (sym is.is) (of_cause is.cause)
+  of_task (task.Choices settings) fault (none, inr is) = of_cause is.text is.cause fault is.is
   of_task (task.Clash settings) fault (none, inl unread) = of_unread _ fault unread
-  of_task (task.Clash settings) fault (none, inr is) = subst IsOfReport (sym is.is) (of_cause is.cause)
+  of_task (task.Clash settings) fault (none, inr is) = of_cause is.text is.cause fault is.is
 
   module _ (old new : Option (List ℕ)) (has_failed : Bool) (words : List Text) where
     pub why_none : (fault : NoAnswer) → IsWithoutReport old new has_failed contents input before after words fault
@@ -62,7 +62,7 @@ module _ (contents : Text → Option (List ℕ)) (input : Option (List ℕ)) (be
     why_none (Words error) none = absurd (of_task none.task (Words error) none.explained)
     why_none NotText none = absurd (of_task none.task NotText none.explained)
     why_none Write none = absurd (of_task none.task Write none.explained)
-    why_none (Refused refused) none = none
+    why_none (Refused refused specification) none = none
     why_none Memory none = none
     why_none (File source) none = none
     why_none (Graph name) none = none

@@ -6,7 +6,10 @@
 --     fault_of_report, fault_of_no_words, fault_of_read
 --                                 the fault where there is no report, where words can't be had, and
 --                                 where the text from a source can't be
-use Rattle.std.specs.Prelude.{◌≤◌, ℕ, Option, Some, None, IfSome, ⊤}
+--     IsToldOf text report fault  it is the fault where there is no report, and may have the text of
+--                                 the specification, which is this one
+use Rattle.std.specs.Prelude.{◌≡◌, ◌≤◌, ℕ, List, Option, Some, None, IfSome, ⊤}
+use Rattle.std.proofs.Common.{Vec, Global}
 use Rattle.asm_explore_words.specs.declared.fault.Fault.{Fault}
 use Rattle.asm_explore_words.specs.declared.fault.Fault.TheVariants as report
 use Rattle.asm_explore_words.specs.declared.fault.Source.{Source}
@@ -18,7 +21,7 @@ use Rattle.asm_explore_tool.specs.declared.no_answer.NoAnswer.{NoAnswer}
 use Rattle.asm_explore_tool.specs.declared.no_answer.NoAnswer.TheVariants.{Words, NotText, Text, Memory, File, Write, Graph, QuietScript, Unconfirmed}
 
 abbrev pub status_of : NoAnswer → ℕ
-status_of (Text refused) = 2
+status_of (Text refused specification) = 2
 status_of Memory = 3
 status_of (File source) = 3
 status_of Write = 3
@@ -44,11 +47,18 @@ abbrev pub IsUnread : (Names : Source → Type 0) → NoAnswer → Type 0
 IsUnread Names fault = IfSome (source_in fault) Names × IsOfReading fault
 
 abbrev pub fault_of_report : Fault → NoAnswer
-fault_of_report (report.Text refused) = Text refused
+fault_of_report (report.Text refused) = Text refused None
 fault_of_report report.Memory = Memory
 fault_of_report (report.Graph name) = Graph name
 fault_of_report (report.QuietScript name) = QuietScript name
 fault_of_report report.Unconfirmed = Unconfirmed
+
+abbrev pub IsToldOf : (text : List ℕ) → Fault → NoAnswer → Type 0
+IsToldOf text (report.Text refused) fault = (specification : Option (Vec ℕ Global)) × IfSome specification (λ s. s.items ≡ text) × (fault ≡ Text refused specification)
+IsToldOf text report.Memory fault = fault ≡ Memory
+IsToldOf text (report.Graph name) fault = fault ≡ Graph name
+IsToldOf text (report.QuietScript name) fault = fault ≡ QuietScript name
+IsToldOf text report.Unconfirmed fault = fault ≡ Unconfirmed
 
 abbrev pub fault_of_no_words : NoWords → NoAnswer
 fault_of_no_words absent.Memory = Memory

@@ -29,7 +29,7 @@ use Rattle.std.specs.Io.KnownBytes.{Appends, Keeps}
 use Rattle.clap.specs.Kinds.{IsAmong, Kinds}
 use Rattle.clap.specs.Values.{kind_of}
 use Rattle.clap.specs.Walk.{Text}
-use Rattle.asm_explore_tool.specs.Faults.{IsUnread, fault_of_report, status_of}
+use Rattle.asm_explore_tool.specs.Faults.{IsToldOf, IsUnread, status_of}
 use Rattle.asm_explore_tool.specs.GivenTexts.{AreGiven, AreRandomGiven, AreRunTexts, IsRead, IsReadForRun, IsText}
 use Rattle.asm_explore_tool.specs.declared.no_answer.NoAnswer.{NoAnswer}
 use Rattle.asm_explore_tool.specs.declared.no_answer.NoAnswer.TheVariants as no_answer
@@ -88,7 +88,7 @@ module _ (contents : Text → Option (List ℕ)) (input : Option (List ℕ)) whe
     pub conditions : Conditions
     pub given : AreGiven contents settings conditions
     pub cause : Fault
-    pub is : fault ≡ fault_of_report cause
+    pub is : IsToldOf text cause fault
     pub explained : ExplainsAll text conditions settings before after cause
 
   pub record IsFaultOfRandom (settings : RandomSettings) (fault : NoAnswer) : Type 0 where
@@ -97,7 +97,7 @@ module _ (contents : Text → Option (List ℕ)) (input : Option (List ℕ)) whe
     pub conditions : Conditions
     pub given : AreRandomGiven contents settings conditions
     pub cause : Fault
-    pub is : fault ≡ fault_of_report cause
+    pub is : IsToldOf text cause fault
     pub explained : ExplainsRandom text conditions settings cause
 
   pub record IsFaultOfRun (settings : RunSettings) (fault : NoAnswer) : Type 0 where
@@ -105,7 +105,7 @@ module _ (contents : Text → Option (List ℕ)) (input : Option (List ℕ)) whe
     pub script_text : List ℕ
     pub are_texts : AreRunTexts contents input settings text script_text
     pub cause : Fault
-    pub is : fault ≡ fault_of_report cause
+    pub is : IsToldOf text cause fault
     pub explained : ExplainsRun text script_text settings cause
 
   abbrev pub ExplainsTask : (before after : Option (List MadeFile)) → Task → NoAnswer → Type 0

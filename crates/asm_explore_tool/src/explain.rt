@@ -1,10 +1,15 @@
 //! The message on standard error.
 use crate::buffered_writer::BufferedWriter;
 use crate::no_answer::NoAnswer;
+use asm_explore_hints::hint::hint;
+use asm_explore_hints::words::with_tips;
 use asm_explore_texts::excerpt::excerpt;
 use asm_explore_texts::position::{Line, Position};
 use asm_explore_words::fault::{RefusedText, Source};
 use asm_run::sink::Sink;
+use clap::Error;
+use std::alloc::{AllocError, Global};
+use std::convert::AsStr;
 use std::fmt;
 use std::fmt::Write;
 
@@ -15,11 +20,51 @@ pub(crate) fn explain<E: Sink>(fault: &NoAnswer<'_>, err: &mut E) {
     let _ = message(fault, &mut out).and_then(|()| out.hand_on());
 }
 
+/// Says why these words have no report, and what would cure that. If there is no memory for what
+/// would, it isn't said.
+pub(crate) fn explain_to<S: AsStr, E: Sink>(
+    alloc: Global,
+    words: &[S],
+    fault: &NoAnswer<'_>,
+    err: &mut E,
+) {
+    let mut out = BufferedWriter::new(err);
+    let _ = message_to(alloc, words, fault, &mut out).and_then(|()| out.hand_on());
+}
+
+fn message_to<S: AsStr, W: Write>(
+    alloc: Global,
+    words: &[S],
+    fault: &NoAnswer<'_>,
+    out: &mut W,
+) -> fmt::Result {
+    match fault {
+        NoAnswer::Words(error) => match told(alloc, words, error) {
+            Ok(text) => out.write_str(text.as_str()),
+            Err(_) => write!(out, "{error}"),
+        },
+        NoAnswer::Text(refused, specification) => {
+            refusal(refused, out)?;
+            match hint(alloc, specification.as_deref(), refused) {
+                Ok(hint) if !hint.is_empty() => writeln!(out, "hint: {hint}"),
+                _ => Ok(()),
+            }
+        }
+        _ => message(fault, out),
+    }
+}
+
+/// What is wrong with these words.
+fn told<S: AsStr>(alloc: Global, words: &[S], error: &Error) -> Result<String, AllocError> {
+    let text = format!(in alloc; "{error}")?;
+    with_tips(alloc, words, text.as_str())
+}
+
 fn message<W: Write>(fault: &NoAnswer<'_>, out: &mut W) -> fmt::Result {
     match fault {
         NoAnswer::Words(error) => write!(out, "{error}"),
         NoAnswer::NotText => out.write_str("asm-explore: a word isn't UTF-8\n"),
-        NoAnswer::Text(refused) => refusal(refused, out),
+        NoAnswer::Text(refused, _) => refusal(refused, out),
         NoAnswer::Memory => out.write_str("asm-explore: out of memory\n"),
         NoAnswer::File(source) => unreadable(*source, out),
         NoAnswer::Write => out.write_str("asm-explore: the answer can't be written\n"),

@@ -1,6 +1,6 @@
 //! Why the program doesn't write what words ask for.
 ghost use Rattle.std.specs.Prelude.{◌≡◌};
-ghost use Rattle.asm_explore_tool.specs.Faults.{IsUnread, fault_of_no_words, fault_of_read, fault_of_report, status_of};
+ghost use Rattle.asm_explore_tool.specs.Faults.{IsToldOf, IsUnread, fault_of_no_words, fault_of_read, fault_of_report, status_of};
 ghost use Rattle.asm_explore_tool.specs.declared.no_answer.NoAnswer.TheVariants as no_answer;
 
 use asm_explore_words::fault::{Fault, RefusedText, Source};
@@ -15,8 +15,9 @@ pub enum NoAnswer<'w> {
     Words(Error),
     /// A word isn't text.
     NotText,
-    /// The specification, the script or a condition is refused.
-    Text(RefusedText<'w>),
+    /// The specification, the script or a condition is refused. If the text of the specification is
+    /// there, the message may speak of it.
+    Text(RefusedText<'w>, Option<Vec<u8>>),
     /// Memory ran out.
     Memory,
     /// A file can't be read.
@@ -38,11 +39,24 @@ impl<'w> NoAnswer<'w> {
         ensures { result ≡ status_of self.now }
     {
         match self {
-            NoAnswer::Text(_) => 2,
+            NoAnswer::Text(..) => 2,
             NoAnswer::Memory | NoAnswer::File(_) | NoAnswer::Write => 3,
             NoAnswer::Graph(_) | NoAnswer::QuietScript(_) => 3,
             NoAnswer::Unconfirmed => 3,
             NoAnswer::Words(_) | NoAnswer::NotText => 4,
+        }
+    }
+
+    /// Where there is no report, for a specification with this text.
+    pub(crate) fn of_report(fault: Fault<'w>, text: Vec<u8>) -> NoAnswer<'w>
+        ensures { IsToldOf text.items fault.entry result }
+    {
+        match fault {
+            Fault::Text(refused) => NoAnswer::Text(refused, Some(text)),
+            Fault::Memory => NoAnswer::Memory,
+            Fault::Graph(name) => NoAnswer::Graph(name),
+            Fault::QuietScript(name) => NoAnswer::QuietScript(name),
+            Fault::Unconfirmed => NoAnswer::Unconfirmed,
         }
     }
 
@@ -79,7 +93,7 @@ impl<'w> From<Fault<'w>> for NoAnswer<'w> {
 
     fn from(fault: Fault<'w>) -> NoAnswer<'w> {
         match fault {
-            Fault::Text(refused) => NoAnswer::Text(refused),
+            Fault::Text(refused) => NoAnswer::Text(refused, None),
             Fault::Memory => NoAnswer::Memory,
             Fault::Graph(name) => NoAnswer::Graph(name),
             Fault::QuietScript(name) => NoAnswer::QuietScript(name),

@@ -1,6 +1,7 @@
 //! The reports that words ask for.
-ghost use Rattle.std.specs.Prelude.{◌≡◌, ◌⊎◌, [], false, IfOk, IfErr};
-ghost use Rattle.asm_explore_tool.specs.Faults.{IsUnread};
+ghost use Rattle.std.specs.Prelude.{◌≡◌, ◌⊎◌, [], false, Ok, Err, IfOk, IfErr};
+ghost use Rattle.asm_explore_words.specs.declared.fault.Fault.{Fault as Cause};
+ghost use Rattle.asm_explore_tool.specs.Faults.{IsToldOf, IsUnread};
 ghost use Rattle.asm_explore_tool.specs.GivenTexts.{IsRead, IsReadForRun};
 ghost use Rattle.asm_explore_tool.specs.Outputs.{ExplainsTask, IsFaultOfAll, IsFaultOfRandom, IsFaultOfRun, IsReportOf, IsReportOfAll, IsReportOfRandom, IsReportOfRun};
 ghost use Rattle.asm_explore_all.specs.MadeFiles.{Makes};
@@ -18,7 +19,7 @@ use asm_explore_random::random_report::random_report;
 use asm_explore_report::report::Report;
 use asm_explore_run::choices_report::choices_report;
 use asm_explore_run::clash_report::clash_report;
-use asm_explore_words::fault::Source;
+use asm_explore_words::fault::{Fault, Source};
 use asm_explore_words::settings::{RandomSettings, RunSettings, Settings, Task};
 use asm_files::folder::Folder;
 use asm_random::RandomProgress;
@@ -109,9 +110,9 @@ fn report_of_all<'w, R: Threads + Sync, F: Folder + NewFiles, I: Read + Drop, W:
     let spec = settings.spec;
     let text = text(folder, alloc, Source::Specification(spec), spec, input)?;
     let conditions = conditions(folder, alloc, settings)?;
-    let text = text.as_slice();
-    let report = all_report(rt, folder, alloc, text, &conditions, settings, watch)?;
-    Ok(report)
+    let bytes = text.as_slice();
+    let report = all_report(rt, folder, alloc, bytes, &conditions, settings, watch);
+    told(report, text)
 }
 
 /// The report for settings of `random`.
@@ -129,7 +130,18 @@ fn report_of_random<'w, R: Threads + Sync, F: Folder, I: Read + Drop, W: Watch<R
     let spec = settings.spec;
     let text = text(folder, alloc, Source::Specification(spec), spec, input)?;
     let conditions = random_conditions(folder, alloc, settings)?;
-    let text = text.as_slice();
-    let report = random_report(rt, alloc, text, &conditions, settings, watch)?;
-    Ok(report)
+    let bytes = text.as_slice();
+    let report = random_report(rt, alloc, bytes, &conditions, settings, watch);
+    told(report, text)
+}
+
+/// A report for a specification with this text, or why there is none.
+fn told<'w>(report: Result<Report, Fault<'w>>, text: Vec<u8>) -> Result<Report, NoAnswer<'w>>
+    ensures report { IfOk result (λ made. report.entry ≡ Ok made) }
+    ensures explained { IfErr result (λ fault. (cause : Cause) × (report.entry ≡ Err cause) × IsToldOf text.items cause fault) }
+{
+    match report {
+        Ok(report) => Ok(report),
+        Err(fault) => Err(NoAnswer::of_report(fault, text)),
+    }
 }

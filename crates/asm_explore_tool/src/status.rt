@@ -7,7 +7,7 @@ ghost use Rattle.asm_explore_tool.specs.Faults.{IsOfFault, status_of};
 ghost use Rattle.asm_explore_tool.specs.Outputs.{AreRefused, Explains, IsAnswer, IsExplained, IsHelp};
 ghost use Rattle.asm_explore_words.specs.WordsSaid.{AskForHelp, task_refusals};
 
-use crate::explain::explain;
+use crate::explain::{explain, explain_to};
 use crate::no_answer::NoAnswer;
 use crate::progress_lines::ProgressLines;
 use crate::reports::report;
@@ -56,7 +56,10 @@ pub fn status<
 {
     match answer(rt, folder, words, input, out, err, is_terminal) {
         Ok(status) => status,
-        Err(fault) => refusal(&fault, err),
+        Err(fault) => {
+            explain_to(rt.alloc(), words, &fault, err);
+            fault.status()
+        }
     }
 }
 

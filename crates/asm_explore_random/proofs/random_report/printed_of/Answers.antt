@@ -1,4 +1,4 @@
-use Rattle.std.proofs.Common.{◌≡◌, ◌∙◌, List, ℕ, Option, ap, subst}
+use Rattle.std.proofs.Common.{◌≡◌, ◌∙◌, ◌++◌, List, ℕ, Option, ap, subst}
 use Rattle.asm_explore_report.specs.Comments.{lines_of}
 use Rattle.asm_explore_report.specs.Printed.{IsPrinted}
 use Rattle.asm_explore_report.specs.ShownRuns.{Shown}
@@ -10,18 +10,22 @@ pub returns : goal.returns
 returns g c links joined =
     let answer = c.args.answer.now in
     let question = c.args.asked.now.question in
-    let words = c.in_ok-words.words.items in
+    let told = c.in_ok-words.field-0 in
+    let words = told.words.items in
+    let because = lines_of told.because.items in
     let asks = c.args.settings.now.trace in
     let whole = c.in_ok-whole.whole.items in
     let line = random_line answer.runs question.steps answer.finding in
     let facts = random_facts c.args.conditions.now c.args.settings.now answer in
+    let lines : lines_of c.in_ok-lines.lines.items ≡ because ++ facts = c.in_ok-lines.ensures ∙ ap (λ ls. because ++ ls) c.in_ok-facts.ensures in
     let Prints = IsPrinted c.args.text.now question.turns asks in
     let first : c.as_slice-2.result.now ≡ line words = c.as_slice-2.ensures.value ∙ (c.in_ok-first.ensures ∙ ap line c.as_slice.ensures.value) in
-    let others : lines_of c.as_slice-3.result.now ≡ facts = ap lines_of c.as_slice-3.ensures.value ∙ c.in_ok-facts.ensures in
+    let others : lines_of c.as_slice-3.result.now ≡ because ++ facts = ap lines_of c.as_slice-3.ensures.value ∙ lines in
     let by_run = subst (λ (run : Option Shown). Prints c.as_slice-2.result.now (lines_of c.as_slice-3.result.now) run whole) c.shown_run.ensures c.in_ok-whole.ensures in
     let by_first = subst (λ (l : List ℕ). Prints l (lines_of c.as_slice-3.result.now) (shown_in answer.finding) whole) first by_run in
     record {
       words = words;
+      because = because;
       tell = c.in_ok-words.ensures links joined c.requires.accepted;
       are_printed = subst (λ (ls : List (List ℕ)). Prints (line words) ls (shown_in answer.finding) whole) others by_first;
     }

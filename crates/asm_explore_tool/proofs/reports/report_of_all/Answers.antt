@@ -1,19 +1,14 @@
-use Rattle.std.proofs.Common.{inl, inr, refl, subst}
+use Rattle.std.proofs.Common.{◌⊎◌, [], inl, inr, subst}
 use Rattle.std.proofs.lemmas.Option.{IfSome_then}
 use Rattle.std.proofs.lemmas.Result.{err_from_is_err_and}
 use Rattle.asm_explore_all.specs.AllReport.{ExplainsAll, IsReportedBy}
-use Rattle.asm_explore_tool.specs.Faults.{source_in}
+use Rattle.asm_explore_all.specs.MadeFiles.{Makes}
+use Rattle.asm_explore_tool.specs.Faults.{IsUnread, source_in}
+use Rattle.asm_explore_tool.specs.GivenTexts.{IsRead}
+use Rattle.asm_explore_tool.specs.Outputs.{IsFaultOfAll, IsReportOfAll}
+use Rattle.asm_explore_tool.proofs.ToldReports.{told_err, told_ok}
 use Rattle.asm_explore_tool.proofs.NoFiles.{makes_none}
 use Rattle.asm_explore_tool.proofs.reports.report_of_all.Goals as goal
-
-pub returns-clause-report : goal.returns-clause-report
-returns-clause-report g c = record {
-  text = c.in_ok-text.text.items;
-  is_text = c.in_ok-text.ensures.text;
-  conditions = c.in_ok-conditions.conditions;
-  given = c.in_ok-conditions.ensures.given;
-  reported = subst (λ t. IsReportedBy t c.in_ok-conditions.conditions c.args.settings.now (g.F.NewFiles.made c.args.folder.now) (g.F.NewFiles.made c.all_report.new.files) c.in_ok-report.report) c.as_slice-text.ensures.value c.in_ok-report.ensures.reported;
-}
 
 pub returns-in_err-text-clause-explained : goal.returns-in_err-text-clause-explained
 returns-in_err-text-clause-explained g c =
@@ -27,20 +22,39 @@ returns-in_err-conditions-clause-explained g c =
     let h = c.in_err-conditions.ensures.unread in
     rw (p.1, p.2) (inl ((IfSome_then (source_in c.in_err-conditions.field-0.0) h.0 (λ s is. inr is), h.1), makes_none _))
 
-pub returns-in_err-report-clause-explained : goal.returns-in_err-report-clause-explained
-returns-in_err-report-clause-explained g c =
+pub returns-clause-report : goal.returns-clause-report
+returns-clause-report g c =
     let conditions = c.in_ok-conditions.conditions in
     let settings = c.args.settings.now in
     let old = g.F.NewFiles.made c.args.folder.now in
-    let new = g.F.NewFiles.made c.all_report.new.files in
-    let cause = c.in_err-report.field-0.0 in
-    let p = err_from_is_err_and c.from_residual-in_err-report.result c.from_residual-in_err-report.ensures.1 in
-    rw (p.1, p.2) (inr (record {
+    let new = g.F.NewFiles.made c.all_report-report.new.files in
+    told_ok c.told.result c.all_report-report.result (λ report. IsReportedBy c.as_slice-bytes.result.now conditions settings old new report)
+    (IsReportOfAll (g.F.Folder.contents c.args.folder.now) (g.I.Read.remaining c.args.input) old new settings) c.told.ensures.report c.all_report-report.ensures.reported
+    (λ report is. record {
       text = c.in_ok-text.text.items;
       is_text = c.in_ok-text.ensures.text;
       conditions = conditions;
       given = c.in_ok-conditions.ensures.given;
-      cause = cause;
-      is = refl;
-      explained = subst (λ t. ExplainsAll t conditions settings old new cause) c.as_slice-text.ensures.value c.in_err-report.ensures.explained;
+      reported = subst (λ t. IsReportedBy t conditions settings old new report) c.as_slice-bytes.ensures.value is;
+    })
+
+pub returns-clause-explained : goal.returns-clause-explained
+returns-clause-explained g c =
+    let conditions = c.in_ok-conditions.conditions in
+    let settings = c.args.settings.now in
+    let contents = g.F.Folder.contents c.args.folder.now in
+    let input = g.I.Read.remaining c.args.input in
+    let old = g.F.NewFiles.made c.args.folder.now in
+    let new = g.F.NewFiles.made c.all_report-report.new.files in
+    told_err c.in_ok-text.text.items c.told.result c.all_report-report.result (ExplainsAll c.as_slice-bytes.result.now conditions settings old new)
+    (λ fault. (IsUnread (IsRead settings.spec settings.always_files.items) fault × Makes old new []) ⊎ IsFaultOfAll contents input old new settings fault)
+    c.told.ensures.explained c.all_report-report.ensures.explained
+    (λ why fault is told. inr (record {
+      text = c.in_ok-text.text.items;
+      is_text = c.in_ok-text.ensures.text;
+      conditions = conditions;
+      given = c.in_ok-conditions.ensures.given;
+      cause = why;
+      is = told;
+      explained = subst (λ t. ExplainsAll t conditions settings old new why) c.as_slice-bytes.ensures.value is;
     }))

@@ -1,6 +1,7 @@
-use Rattle.std.proofs.Common.{inl, inr, refl, subst}
+use Rattle.std.proofs.Common.{inl, inr, subst}
 use Rattle.std.proofs.lemmas.Result.{err_from_is_err_and}
 use Rattle.asm_explore_run.specs.RunReport.{ExplainsRun}
+use Rattle.asm_explore_tool.proofs.ToldReports.{told_plainly}
 use Rattle.asm_explore_tool.proofs.reports.report_of_clash.Goals as goal
 
 pub returns-in_err-texts-clause-explained : goal.returns-in_err-texts-clause-explained
@@ -19,7 +20,7 @@ returns-in_err-report-clause-explained g c =
       script_text = texts.script.items;
       are_texts = c.in_ok-texts.ensures.texts;
       cause = cause;
-      is = refl;
+      is = told_plainly texts.text.items cause;
       explained = subst (λ s. ExplainsRun texts.text.items s settings cause) c.as_slice-script.ensures.value
           (subst (λ t. ExplainsRun t c.as_slice-script.result.now settings cause) c.as_slice-text.ensures.value c.in_err-report.ensures.explained);
     }))

@@ -1,18 +1,12 @@
-use Rattle.std.proofs.Common.{inl, inr, refl, subst}
+use Rattle.std.proofs.Common.{◌⊎◌, inl, inr, subst}
 use Rattle.std.proofs.lemmas.Option.{IfSome_then}
 use Rattle.std.proofs.lemmas.Result.{err_from_is_err_and}
 use Rattle.asm_explore_random.specs.RandomReport.{ExplainsRandom, IsRandomReported}
-use Rattle.asm_explore_tool.specs.Faults.{source_in}
+use Rattle.asm_explore_tool.specs.Faults.{IsUnread, source_in}
+use Rattle.asm_explore_tool.specs.GivenTexts.{IsRead}
+use Rattle.asm_explore_tool.specs.Outputs.{IsFaultOfRandom, IsReportOfRandom}
+use Rattle.asm_explore_tool.proofs.ToldReports.{told_err, told_ok}
 use Rattle.asm_explore_tool.proofs.reports.report_of_random.Goals as goal
-
-pub returns-clause-report : goal.returns-clause-report
-returns-clause-report g c = record {
-  text = c.in_ok-text.text.items;
-  is_text = c.in_ok-text.ensures.text;
-  conditions = c.in_ok-conditions.conditions;
-  given = c.in_ok-conditions.ensures.given;
-  reported = subst (λ t. IsRandomReported t c.in_ok-conditions.conditions c.args.settings.now c.in_ok-report.report) c.as_slice-text.ensures.value c.in_ok-report.ensures.reported;
-}
 
 pub returns-in_err-text-clause-explained : goal.returns-in_err-text-clause-explained
 returns-in_err-text-clause-explained g c =
@@ -26,18 +20,35 @@ returns-in_err-conditions-clause-explained g c =
     let h = c.in_err-conditions.ensures.unread in
     rw (p.1, p.2) (inl (IfSome_then (source_in c.in_err-conditions.field-0.0) h.0 (λ s is. inr is), h.1))
 
-pub returns-in_err-report-clause-explained : goal.returns-in_err-report-clause-explained
-returns-in_err-report-clause-explained g c =
+pub returns-clause-report : goal.returns-clause-report
+returns-clause-report g c =
     let conditions = c.in_ok-conditions.conditions in
     let settings = c.args.settings.now in
-    let cause = c.in_err-report.field-0.0 in
-    let p = err_from_is_err_and c.from_residual-in_err-report.result c.from_residual-in_err-report.ensures.1 in
-    rw (p.1, p.2) (inr (record {
+    told_ok c.told.result c.random_report-report.result (λ report. IsRandomReported c.as_slice-bytes.result.now conditions settings report)
+    (IsReportOfRandom (g.F.Folder.contents c.args.folder.now) (g.I.Read.remaining c.args.input) settings) c.told.ensures.report c.random_report-report.ensures.reported
+    (λ report is. record {
       text = c.in_ok-text.text.items;
       is_text = c.in_ok-text.ensures.text;
       conditions = conditions;
       given = c.in_ok-conditions.ensures.given;
-      cause = cause;
-      is = refl;
-      explained = subst (λ t. ExplainsRandom t conditions settings cause) c.as_slice-text.ensures.value c.in_err-report.ensures.explained;
+      reported = subst (λ t. IsRandomReported t conditions settings report) c.as_slice-bytes.ensures.value is;
+    })
+
+pub returns-clause-explained : goal.returns-clause-explained
+returns-clause-explained g c =
+    let conditions = c.in_ok-conditions.conditions in
+    let settings = c.args.settings.now in
+    let contents = g.F.Folder.contents c.args.folder.now in
+    let input = g.I.Read.remaining c.args.input in
+    told_err c.in_ok-text.text.items c.told.result c.random_report-report.result (ExplainsRandom c.as_slice-bytes.result.now conditions settings)
+    (λ fault. IsUnread (IsRead settings.spec settings.always_files.items) fault ⊎ IsFaultOfRandom contents input settings fault)
+    c.told.ensures.explained c.random_report-report.ensures.explained
+    (λ why fault is told. inr (record {
+      text = c.in_ok-text.text.items;
+      is_text = c.in_ok-text.ensures.text;
+      conditions = conditions;
+      given = c.in_ok-conditions.ensures.given;
+      cause = why;
+      is = told;
+      explained = subst (λ t. ExplainsRandom t conditions settings why) c.as_slice-bytes.ensures.value is;
     }))

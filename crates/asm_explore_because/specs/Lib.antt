@@ -1,0 +1,5 @@
+pub mod PrintedTerms
+pub mod Parts
+pub mod Because
+pub mod DecidingLaws
+pub mod code

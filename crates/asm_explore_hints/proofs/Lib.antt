@@ -1,0 +1,2 @@
+mod DeclaredSteps
+mod EditedWords

@@ -1,0 +1,3 @@
+pub mod Beginnings
+pub mod NearWords
+pub mod code

@@ -1,0 +1,3 @@
+-- Bridge to the code. What connects the definitions of this crate to its code.
+pub mod DeclaredNames
+pub mod Places
