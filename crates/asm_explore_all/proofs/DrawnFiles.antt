@@ -68,5 +68,6 @@ module _ (asked : AskedQuestion) where
   explained_text run name text lines old new is (fault.Graph file) h = (ap Some (sym h.0), (lines, (name, text) ∷ [], is, h.1))
   explained_text run name text lines old new is (fault.Text refused) h = absurd h
   explained_text run name text lines old new is (fault.QuietScript file) h = absurd h
+  explained_text run name text lines old new is (fault.Name file) h = absurd h
   explained_text run name text lines old new is fault.Memory h = absurd h
   explained_text run name text lines old new is fault.Unconfirmed h = absurd h

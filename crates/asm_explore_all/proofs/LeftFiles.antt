@@ -30,6 +30,7 @@ of_asking text conditions settings known fault.Memory h = inl (makes_none known)
 of_asking text conditions settings known fault.Unconfirmed h = absurd h.1
 of_asking text conditions settings known (fault.Graph name) h = absurd h.1
 of_asking text conditions settings known (fault.QuietScript name) h = absurd h.1
+of_asking text conditions settings known (fault.Name name) h = absurd h.1
 
 abbrev graph_name : Settings → Option (List ℕ)
 graph_name settings = option_map (λ name. name.now) settings.dot
@@ -50,6 +51,7 @@ module _ (text : List ℕ) (conditions : Conditions) (settings : Settings) (answ
       (same, (drawn ++ scripts settings answer, files_of graph drawn is, stops_more old new name.now drawn (scripts settings answer) stops))
   of_graph old new (fault.Text refused) h = absurd h
   of_graph old new (fault.QuietScript name) h = absurd h
+  of_graph old new (fault.Name name) h = absurd h
   of_graph old new fault.Unconfirmed h = absurd h
 
   module _ (old mid new : Option (List MadeFile)) (graph : List (List ℕ)) (drawn : List MadeFile) (is : IsDrawn explored.asked (drawn_in answer.finding) (graph_name settings) graph drawn) (makes : Makes old mid drawn) where
@@ -58,6 +60,7 @@ module _ (text : List ℕ) (conditions : Conditions) (settings : Settings) (answ
         (same, (drawn ++ scripts settings answer, files_of graph drawn is, stops_after old mid new name.now drawn (scripts settings answer) makes stops))
     of_script fault.Memory h = absurd h
     of_script (fault.Graph name) h = absurd h
+    of_script (fault.Name name) h = absurd h
     of_script (fault.Text refused) h = absurd h
     of_script fault.Unconfirmed h = absurd h
 

@@ -106,6 +106,7 @@ abbrev pub ExplainsScript : (file : Option (List ℕ)) → Option QuietRun → (
 ExplainsScript file run old new (fault.QuietScript name) = (file ≡ Some name.now) × StopsAt old new name.now (quiet_files file run)
 ExplainsScript file run old new fault.Memory = ⊥
 ExplainsScript file run old new (fault.Graph name) = ⊥
+ExplainsScript file run old new (fault.Name name) = ⊥
 ExplainsScript file run old new (fault.Text refused) = ⊥
 ExplainsScript file run old new fault.Unconfirmed = ⊥
 

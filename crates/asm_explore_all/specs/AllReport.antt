@@ -95,5 +95,6 @@ module _ (text : List ℕ) (conditions : Conditions) (settings : Settings) where
   ExplainsAll old new (fault.Text refused) = IsQuestionRefused text settings.spec.now conditions refused × Makes old new []
   ExplainsAll old new (fault.Graph name) = (option_map (λ file. file.now) settings.dot ≡ Some name.now) × StopsInFiles old new name.now
   ExplainsAll old new (fault.QuietScript name) = (option_map (λ file. file.now) settings.quiet ≡ Some name.now) × StopsInFiles old new name.now
+  ExplainsAll old new (fault.Name name) = ⊥
   ExplainsAll old new fault.Memory = MakesFirstFiles old new
   ExplainsAll old new fault.Unconfirmed = (files : List MadeFile) × AreFilesOf files × Makes old new files

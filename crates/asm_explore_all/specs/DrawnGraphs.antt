@@ -110,4 +110,5 @@ module _ (asked : AskedQuestion) where
         (file ≡ Some name.now) × ((lines : List (List ℕ)) × (drawn : List MadeFile) × IsDrawn file lines drawn × StopsAt old new name.now drawn)
     ExplainsDrawing file old new (fault.Text refused) = ⊥
     ExplainsDrawing file old new (fault.QuietScript name) = ⊥
+    ExplainsDrawing file old new (fault.Name name) = ⊥
     ExplainsDrawing file old new fault.Unconfirmed = ⊥

@@ -3,7 +3,7 @@ ghost use Rattle.std.specs.Prelude.{◌≡◌, ◌∷◌, ◌++◌, [], option_m
 ghost use Rattle.std.specs.String.{string_bytes};
 ghost use Rattle.asm_explore_texts.specs.Conditions.{text_of};
 ghost use Rattle.asm_explore_texts.specs.Positions.{MayBePosition};
-ghost use Rattle.asm_explore_report.specs.Comments.{lines_of};
+ghost use Rattle.asm_explore_texts.specs.Comments.{lines_of};
 ghost use Rattle.asm_explore_report.specs.Facts.{condition_line};
 ghost use Rattle.asm_explore_report.specs.ShownRuns.{shown_of};
 ghost use Rattle.asm_explore_all.specs.AllFacts.{AreFacts, IsCrowd, IsCrowdLine, all_looked_for, command_lines, condition_lines, count_line, count_lines, optional_line, script_words, shown_in};

@@ -20,6 +20,7 @@ module _ (text : List ℕ) (conditions : Conditions) (settings : RandomSettings)
   of_asking fault.Unconfirmed h = absurd h.1
   of_asking (fault.Graph name) h = absurd h.1
   of_asking (fault.QuietScript name) h = absurd h.1
+  of_asking (fault.Name name) h = absurd h.1
 
   pub of_showing : (why : Unshown) (asked : AskedRuns) → IsRandomAsked text conditions settings asked → ExplainsRandom text conditions settings (fault_of_unshown why)
   of_showing unshown.Memory asked is = tt

@@ -113,3 +113,4 @@ module _ (text : List ℕ) (conditions : Conditions) (settings : RandomSettings)
   ExplainsRandom fault.Unconfirmed = (asked : AskedRuns) × IsRandomAsked text conditions settings asked
   ExplainsRandom (fault.Graph name) = ⊥
   ExplainsRandom (fault.QuietScript name) = ⊥
+  ExplainsRandom (fault.Name name) = ⊥

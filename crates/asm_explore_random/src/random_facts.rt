@@ -2,7 +2,7 @@
 ghost use Rattle.std.specs.Prelude.{◌≡◌, ◌∷◌, ◌++◌, [], IfOk, OnOk};
 ghost use Rattle.std.specs.String.{string_bytes};
 ghost use Rattle.asm_explore_texts.specs.Conditions.{text_of};
-ghost use Rattle.asm_explore_report.specs.Comments.{lines_of};
+ghost use Rattle.asm_explore_texts.specs.Comments.{lines_of};
 ghost use Rattle.asm_explore_report.specs.ShownRuns.{shown_of};
 ghost use Rattle.asm_explore_random.specs.RandomFacts.{longer_lines, looked_for_words, quiet_lines, random_counts, random_facts as facts_of, run_line, run_lines, shown_in};
 

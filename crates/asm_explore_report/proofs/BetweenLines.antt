@@ -8,7 +8,7 @@ use Rattle.std.specs.Prelude.{◌⊎◌, not}
 use Rattle.asm_reader.specs.ScriptLines.{Line, Script}
 use Rattle.asm_reader.specs.ScriptText.{IsScript, is_skipped, lines_of, max_script}
 use Rattle.asm_explore.specs.WrittenScripts.{line_said, line_text, lines_text, path_text}
-use Rattle.asm_explore_report.specs.Comments.{comments, lines_of as texts_of}
+use Rattle.asm_explore_texts.specs.Comments.{comments, lines_of as texts_of}
 use Rattle.asm_explore_report.specs.Commented.{HasNoText, IsCommentedText, commented, entries_text, entry_text, said_by}
 use Rattle.asm_explore_report.specs.Printed.{left_out}
 use Rattle.asm_explore_report.specs.declared.commented.Entry.{Entry}

@@ -14,7 +14,7 @@ use Rattle.std.proofs.lemmas.List.Elements.{filter-append}
 use Rattle.std.proofs.lemmas.List.Splits.{length-slice_split, slice_split_at}
 use Rattle.asm_reader.specs.ScriptLines.{Script, script_of}
 use Rattle.asm_reader.specs.ScriptText.{AreFaultless, IsScript, is_bad, is_repeated, is_skipped, line_of, lines_of, max_script, said, said_in, says_again, script_in}
-use Rattle.asm_explore_report.specs.Comments.{comment, comments, in_one_line, shown}
+use Rattle.asm_explore_texts.specs.Comments.{comment, comments, in_one_line, shown}
 
 -- ---- lines that aren't skipped
 

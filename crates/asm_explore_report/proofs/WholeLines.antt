@@ -15,7 +15,7 @@ use Rattle.asm_explore.specs.declared.scripts.writing_error.WritingError.{Writin
 use Rattle.asm_explore.specs.declared.scripts.writing_error.WritingError.TheVariants.{TooLong, LongNumber}
 use Rattle.asm_explore.specs.WrittenScripts.{AnyIsLong, IsLong, IsTextRefusal, line_said, line_text, lines_text, numbers_in, numbers_of_line, written}
 use Rattle.asm_explore.specs.ListElements.{AnyOf}
-use Rattle.asm_explore_report.specs.Comments.{comments}
+use Rattle.asm_explore_texts.specs.Comments.{comments}
 use Rattle.asm_explore_report.specs.Commented.{HasNoText, commented, entries_text, entry_text, said_by}
 use Rattle.asm_explore_report.specs.Printed.{left_out}
 use Rattle.asm_explore_report.specs.declared.commented.Entry.{Entry}

@@ -17,7 +17,7 @@ use Rattle.std.specs.List.{flat_map}
 use Rattle.asm_reader.specs.ScriptLines.{Line}
 use Rattle.asm_reader.specs.ScriptText.{max_script}
 use Rattle.asm_explore.specs.WrittenScripts.{AnyIsLong, AreShort, line_said, line_text, lines_text, numbers_in}
-use Rattle.asm_explore_report.specs.Comments.{comments, lines_of}
+use Rattle.asm_explore_texts.specs.Comments.{comments, lines_of}
 use Rattle.asm_explore_report.specs.Printed.{behind_first, left_out}
 use Rattle.asm_explore_report.specs.declared.commented.Entry.{Entry}
 

@@ -1,7 +1,6 @@
 pub mod AskedConditions
 pub mod Commands
 pub mod Commented
-pub mod Comments
 pub mod EndWords
 pub mod Facts
 pub mod FaultWords

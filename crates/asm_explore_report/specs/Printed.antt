@@ -16,7 +16,7 @@ use Rattle.std.specs.Prelude.{◌≡◌, ◌⊎◌, ◌<◌, ◌≤◌, ℕ, Boo
 use Rattle.std.specs.List.{flat_map}
 use Rattle.asm_reader.specs.ScriptLines.{Script}
 use Rattle.asm_reader.specs.ScriptText.{IsScript, max_script}
-use Rattle.asm_explore_report.specs.Comments.{comments}
+use Rattle.asm_explore_texts.specs.Comments.{comments}
 use Rattle.asm_explore_report.specs.declared.printed.Part.{Part}
 use Rattle.asm_explore_report.specs.declared.printed.Part.TheVariants as part
 use Rattle.asm_explore_report.specs.RunEnds.{IsTraceOf}

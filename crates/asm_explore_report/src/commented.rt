@@ -5,10 +5,10 @@ ghost use Rattle.asm_meaning.specs.Scripts.{IsUnrepeated};
 ghost use Rattle.asm_reader.specs.ExactLines.{exactly};
 ghost use Rattle.asm_reader.specs.ScriptText.{IsScript, max_script};
 ghost use Rattle.asm_explore.specs.WrittenScripts.{AreSteps, IsTextOf, IsTextRefusal, line_said, line_text, lines_text, numbers_in, numbers_of_line};
-ghost use Rattle.asm_explore_report.specs.Comments.{comments as comments_of, lines_of};
+ghost use Rattle.asm_explore_texts.specs.Comments.{comments as comments_of, lines_of};
 ghost use Rattle.asm_explore_report.specs.Commented.{HasNoText, IsCommentedText, commented, entry_text, said_by, script_alone, without_script};
 
-use crate::comment::{add_comments, comments};
+use asm_explore_texts::comment::{add_comments, comments};
 use crate::printed::{Part, fits, left_out, text_behind_first};
 use asm_explore::{ScriptLine, WritingError, Zeros, script_text};
 use asm_reader::MAX_SCRIPT;

@@ -3,9 +3,9 @@
 #![tactic(auto)]
 
 mod broken_condition;
+pub mod broken_run;
 pub mod checked_text;
 pub mod command;
-pub mod comment;
 pub mod commented;
 mod confirm_run;
 pub mod ended;

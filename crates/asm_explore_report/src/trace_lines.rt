@@ -1,6 +1,6 @@
 //! The trace of the run that is shown, line by line.
 ghost use Rattle.std.specs.Prelude.{◌≡◌, ◌==◌, ◌≤◌, [], ◌∷◌, ◌++◌, length, slice_range, IfOk, OnOk};
-ghost use Rattle.asm_explore_report.specs.Comments.{lines_of};
+ghost use Rattle.asm_explore_texts.specs.Comments.{lines_of};
 ghost use Rattle.asm_explore_report.specs.Printed.{AreTraceLines};
 ghost use Rattle.asm_explore_report.specs.ShownRuns.{shown_of};
 ghost use Rattle.asm_explore_report.specs.TraceLines.{text_lines};

@@ -13,7 +13,7 @@ use Rattle.std.proofs.lemmas.List.{length-map}
 use Rattle.asm_run.specs.Trace.{TraceNames, path_text, value_text}
 use Rattle.asm_run.specs.declared.end.End.{End}
 use Rattle.asm_clash.specs.declared.assignment.Assignment.{Assignment}
-use Rattle.asm_explore_report.specs.Comments.{comment, comments, in_one_line, shown}
+use Rattle.asm_explore_texts.specs.Comments.{comment, comments, in_one_line, shown}
 use Rattle.asm_explore_texts.specs.Positions.{position_text}
 use Rattle.asm_explore_run.specs.ClashText.{AreLinesOf, IsLineOf, assignment_text, bound_text, greatest_shown, located}
 

@@ -5,7 +5,7 @@ use Rattle.std.proofs.Common.{◌≡◌, ℕ, suc, refl, ap, ◌+◌, ◌<◌, �
 use Rattle.asm_reader.specs.ScriptLines.{Line}
 use Rattle.asm_explore.specs.WrittenScripts.{line_text, lines_said, lines_text, path_text}
 use Rattle.asm_explore.specs.declared.scripts.script_line.ScriptLine.{ScriptLine}
-use Rattle.asm_explore_report.specs.Comments.{comments}
+use Rattle.asm_explore_texts.specs.Comments.{comments}
 use Rattle.asm_explore_report.specs.Commented.{HasNoText}
 use Rattle.asm_explore_report.specs.Printed.{left_out}
 

@@ -12,7 +12,7 @@ use Rattle.asm_reader.specs.ScriptLines.{SaidLine}
 use Rattle.asm_explore.specs.WrittenScripts.{line_said, lines_said}
 use Rattle.asm_explore.specs.declared.scripts.script_line.ScriptLine.{ScriptLine}
 use Rattle.asm_explore_run.specs.UnmetLines.{is_met, unmet_line}
-use Rattle.asm_explore_report.specs.Comments.{lines_of}
+use Rattle.asm_explore_texts.specs.Comments.{lines_of}
 use Rattle.asm_explore_run.specs.code.LineKeys.{has_said, left_from, meets}
 use Rattle.asm_explore_run.specs.declared.line_keys.LineKeys.{LineKeys}
 use Rattle.asm_explore_run.proofs.KeySets.{removed}

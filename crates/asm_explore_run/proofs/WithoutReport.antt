@@ -24,6 +24,7 @@ module _ (text script_text : List ℕ) (settings : RunSettings) where
   of_specification fault.Unconfirmed h = absurd h.1
   of_specification (fault.Graph name) h = absurd h.1
   of_specification (fault.QuietScript name) h = absurd h.1
+  of_specification (fault.Name name) h = absurd h.1
 
   module _ (tree : Spec) (accepted : IsAccepted text tree) where
     pub of_script : (why : Fault) → ExplainsText (IsScriptRefused script_text settings) why → ExplainsRun text script_text settings why
@@ -32,6 +33,7 @@ module _ (text script_text : List ℕ) (settings : RunSettings) where
     of_script fault.Unconfirmed h = absurd h.1
     of_script (fault.Graph name) h = absurd h.1
     of_script (fault.QuietScript name) h = absurd h.1
+    of_script (fault.Name name) h = absurd h.1
 
     pub of_showing : (why : Unshown) (script : Script) → IsScript script_text script → ExplainsRun text script_text settings (fault_of_unshown why)
     of_showing unshown.Memory script spelled = tt

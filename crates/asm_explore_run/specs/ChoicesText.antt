@@ -25,7 +25,7 @@ use Rattle.asm_state.specs.declared.value.Value.{Value}
 use Rattle.asm_run.specs.Trace.{TraceNames, path_text, value_text}
 use Rattle.asm_explore.specs.ChoicePoints.{Asking}
 use Rattle.asm_explore_report.specs.Commented.{IsCommentedText, IsWithoutScript, said_by}
-use Rattle.asm_explore_report.specs.Comments.{lines_of}
+use Rattle.asm_explore_texts.specs.Comments.{lines_of}
 use Rattle.asm_explore_report.specs.declared.commented.Entry.{Entry}
 use Rattle.asm_explore_texts.specs.Positions.{IsNameAt, name_at, position_text}
 

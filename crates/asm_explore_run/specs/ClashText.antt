@@ -29,7 +29,7 @@ use Rattle.asm_run.specs.Trace.{TraceNames, location_text, path_text, value_text
 use Rattle.asm_run.specs.declared.end.End.{End}
 use Rattle.asm_run.specs.declared.end.End.TheVariants.{Limit, Clash, Outside, Exhausted}
 use Rattle.asm_clash.specs.declared.assignment.Assignment.{Assignment}
-use Rattle.asm_explore_report.specs.Comments.{comments}
+use Rattle.asm_explore_texts.specs.Comments.{comments}
 use Rattle.asm_explore_texts.specs.Positions.{IsNameAt, name_at, position_text}
 
 module _ (names : TraceNames) where

@@ -124,3 +124,4 @@ module _ (text script_text : List ℕ) (settings : RunSettings) where
   ExplainsRun fault.Unconfirmed = ((tree : Spec) × IsAccepted text tree) × ((script : Script) × IsScript script_text script)
   ExplainsRun (fault.Graph name) = ⊥
   ExplainsRun (fault.QuietScript name) = ⊥
+  ExplainsRun (fault.Name name) = ⊥

@@ -9,7 +9,7 @@ ghost use Rattle.asm_reader.specs.ScriptLines.{Script};
 ghost use Rattle.asm_reader.specs.ScriptText.{IsScript};
 ghost use Rattle.asm_explore.specs.RunChoices.{AreAsked, AreChoices, MakesTheRun, asked_in, choices_in, lines_forward};
 ghost use Rattle.asm_explore_report.specs.Commented.{HasNoText};
-ghost use Rattle.asm_explore_report.specs.Comments.{lines_of};
+ghost use Rattle.asm_explore_texts.specs.Comments.{lines_of};
 ghost use Rattle.asm_explore_report.specs.EndWords.{IsRunLine};
 ghost use Rattle.asm_explore_texts.specs.RefusedTexts.{ExplainsText, IsScriptRefused};
 ghost use Rattle.asm_run.specs.Headline.{IsAccepted, IsReturned};

@@ -1,7 +1,7 @@
 //! The text of the assignments by which a run ends.
 ghost use Rattle.std.specs.Prelude.{◌≡◌, ◌∷◌, ◌+◌, ◌++◌, ◌<◌, ◌≤◌, [], length, min, IfOk, OnOk, IsFalse, IsTrue};
 ghost use Rattle.asm_reader.specs.ScriptText.{max_script};
-ghost use Rattle.asm_explore_report.specs.Comments.{comment, comments as comments_of};
+ghost use Rattle.asm_explore_texts.specs.Comments.{comment, comments as comments_of};
 ghost use Rattle.asm_explore_run.specs.ClashText.{IsClashText, greatest_shown, more};
 ghost use Rattle.asm_run.specs.Written.{names_in};
 ghost use Rattle.asm_syntax.specs.code.Views.{spec_of};
@@ -9,7 +9,7 @@ ghost use Rattle.asm_syntax.specs.code.Views.{spec_of};
 use crate::assignment_line::assignment_line;
 use asm_check::Checked;
 use asm_clash::assignment::Assignment;
-use asm_explore_report::comment::{add_comment, comments};
+use asm_explore_texts::comment::{add_comment, comments};
 use asm_reader::MAX_SCRIPT;
 use asm_run::end::End;
 use std::alloc::{AllocError, Global};

@@ -1,4 +1,4 @@
-//! What the commands `choices` and `clash` of `asm-explore` report of one run.
+//! What the commands `choices`, `clash` and `show` of `asm-explore` report of one run.
 #![tactic(auto)]
 
 mod assignment_line;
@@ -9,4 +9,7 @@ pub mod clash_report;
 mod clash_text;
 mod line_keys;
 mod run_end;
+pub mod show_report;
+mod show_text;
+mod shown_assignments;
 mod unmet_lines;

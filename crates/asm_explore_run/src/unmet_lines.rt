@@ -3,7 +3,7 @@ ghost use Rattle.std.specs.Prelude.{◌≡◌, ◌∷◌, ◌++◌, [], cond, fa
 ghost use Rattle.std.specs.Str.Lines.{strip_carriage_return};
 ghost use Rattle.asm_reader.specs.ScriptLines.{SaidLine};
 ghost use Rattle.asm_explore.specs.WrittenScripts.{lines_said};
-ghost use Rattle.asm_explore_report.specs.Comments.{lines_of};
+ghost use Rattle.asm_explore_texts.specs.Comments.{lines_of};
 ghost use Rattle.asm_explore_run.specs.UnmetLines.{is_met, unmet_line as text_of_unmet, unmet_lines as texts_of_unmet};
 ghost use Rattle.asm_explore_run.specs.code.LineKeys.{has_line, has_said, have_lines, left_from};
 

@@ -1,3 +1,4 @@
+pub mod Comments
 pub mod Conditions
 pub mod Places
 pub mod Positions

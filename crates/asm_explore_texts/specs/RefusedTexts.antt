@@ -68,6 +68,7 @@ refused_in fault.Memory = None
 refused_in fault.Unconfirmed = None
 refused_in (fault.Graph name) = None
 refused_in (fault.QuietScript name) = None
+refused_in (fault.Name name) = None
 
 abbrev IsOfText : Fault → Type 0
 IsOfText (fault.Text r) = ⊤
@@ -75,6 +76,7 @@ IsOfText fault.Memory = ⊤
 IsOfText fault.Unconfirmed = ⊥
 IsOfText (fault.Graph name) = ⊥
 IsOfText (fault.QuietScript name) = ⊥
+IsOfText (fault.Name name) = ⊥
 
 abbrev pub ExplainsText : (Refused : RefusedText → Type 0) → Fault → Type 0
 ExplainsText Refused fault = IfSome (refused_in fault) Refused × IsOfText fault

@@ -2,6 +2,7 @@
 #![tactic(auto)]
 
 mod characters;
+pub mod comment;
 pub mod condition;
 pub mod conditions;
 pub mod excerpt;

@@ -14,7 +14,7 @@ use Rattle.asm_explore_words.specs.declared.settings.Task.TheVariants as task
 use Rattle.asm_explore_tool.specs.Faults.{IsToldOf, IsUnread}
 use Rattle.asm_explore_tool.specs.Outputs.{ExplainsTask, IsUnwritten, IsWithoutReport}
 use Rattle.asm_explore_tool.specs.declared.no_answer.NoAnswer.{NoAnswer}
-use Rattle.asm_explore_tool.specs.declared.no_answer.NoAnswer.TheVariants.{Words, NotText, Text as Refused, Memory, File, Write, Graph, QuietScript, Unconfirmed}
+use Rattle.asm_explore_tool.specs.declared.no_answer.NoAnswer.TheVariants.{Words, NotText, Text as Refused, Memory, File, Write, Graph, QuietScript, Name, Unconfirmed}
 
 pub kept_alike : (known : Option (List ℕ)) → Keeps known known
 kept_alike None = tt
@@ -32,6 +32,7 @@ of_cause text (cause.Text refused) fault is = subst IsOfReport (sym is.2) tt
 of_cause text cause.Memory fault is = subst IsOfReport (sym is) tt
 of_cause text (cause.Graph name) fault is = subst IsOfReport (sym is) tt
 of_cause text (cause.QuietScript name) fault is = subst IsOfReport (sym is) tt
+of_cause text (cause.Name name) fault is = subst IsOfReport (sym is) tt
 of_cause text cause.Unconfirmed fault is = subst IsOfReport (sym is) tt
 
 of_unread : (Names : Source → Type 0) (fault : NoAnswer) → IsUnread Names fault → IsOfReport fault
@@ -43,6 +44,7 @@ of_unread Names Memory is = tt
 of_unread Names (File source) is = tt
 of_unread Names (Graph name) is = tt
 of_unread Names (QuietScript name) is = tt
+of_unread Names (Name name) is = tt
 of_unread Names Unconfirmed is = tt
 
 module _ (contents : Text → Option (List ℕ)) (input : Option (List ℕ)) (before after : Option (List MadeFile)) where
@@ -55,6 +57,8 @@ module _ (contents : Text → Option (List ℕ)) (input : Option (List ℕ)) (be
   of_task (task.Choices settings) fault (none, inr is) = of_cause is.text is.cause fault is.is
   of_task (task.Clash settings) fault (none, inl unread) = of_unread _ fault unread
   of_task (task.Clash settings) fault (none, inr is) = of_cause is.text is.cause fault is.is
+  of_task (task.Show settings) fault (none, inl unread) = of_unread _ fault unread
+  of_task (task.Show settings) fault (none, inr is) = of_cause is.text is.cause fault is.is
 
   module _ (old new : Option (List ℕ)) (has_failed : Bool) (words : List Text) where
     pub why_none : (fault : NoAnswer) → IsWithoutReport old new has_failed contents input before after words fault
@@ -67,4 +71,5 @@ module _ (contents : Text → Option (List ℕ)) (input : Option (List ℕ)) (be
     why_none (File source) none = none
     why_none (Graph name) none = none
     why_none (QuietScript name) none = none
+    why_none (Name name) none = none
     why_none Unconfirmed none = none

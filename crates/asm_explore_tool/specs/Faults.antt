@@ -18,7 +18,7 @@ use Rattle.asm_files.specs.declared.fault.NoWords.TheVariants as absent
 use Rattle.asm_files.specs.declared.fault.ReadFault.{ReadFault}
 use Rattle.asm_files.specs.declared.fault.ReadFault.TheVariants as unread
 use Rattle.asm_explore_tool.specs.declared.no_answer.NoAnswer.{NoAnswer}
-use Rattle.asm_explore_tool.specs.declared.no_answer.NoAnswer.TheVariants.{Words, NotText, Text, Memory, File, Write, Graph, QuietScript, Unconfirmed}
+use Rattle.asm_explore_tool.specs.declared.no_answer.NoAnswer.TheVariants.{Words, NotText, Text, Memory, File, Write, Graph, QuietScript, Name, Unconfirmed}
 
 abbrev pub status_of : NoAnswer → ℕ
 status_of (Text refused specification) = 2
@@ -27,6 +27,7 @@ status_of (File source) = 3
 status_of Write = 3
 status_of (Graph name) = 3
 status_of (QuietScript name) = 3
+status_of (Name name) = 4
 status_of Unconfirmed = 3
 status_of (Words error) = 4
 status_of NotText = 4
@@ -51,6 +52,7 @@ fault_of_report (report.Text refused) = Text refused None
 fault_of_report report.Memory = Memory
 fault_of_report (report.Graph name) = Graph name
 fault_of_report (report.QuietScript name) = QuietScript name
+fault_of_report (report.Name name) = Name name
 fault_of_report report.Unconfirmed = Unconfirmed
 
 abbrev pub IsToldOf : (text : List ℕ) → Fault → NoAnswer → Type 0

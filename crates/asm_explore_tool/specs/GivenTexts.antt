@@ -20,6 +20,8 @@
 --                                              those of the files that they name; and so their sources
 --     AreRandomGiven contents settings conditions
 --                                              the same of the settings of `random`
+--     AreShownGiven contents settings conditions
+--                                              the same of the settings of `show`
 use Rattle.std.specs.Prelude.{◌≡◌, ◌⊎◌, ℕ, zero, suc, List, [], ◌∷◌, ◌++◌, length, map, slice_get, Option, Some, None, IfSome, cond, option_map, codes, ⊤}
 use Rattle.std.specs.Borrow.{Bor}
 use Rattle.std.specs.Str.{bytes_eq}
@@ -33,6 +35,7 @@ use Rattle.asm_explore_words.specs.declared.fault.Source.TheVariants as source
 use Rattle.asm_explore_words.specs.declared.settings.RandomSettings.{RandomSettings}
 use Rattle.asm_explore_words.specs.declared.settings.RunSettings.{RunSettings}
 use Rattle.asm_explore_words.specs.declared.settings.Settings.{Settings}
+use Rattle.asm_explore_words.specs.declared.settings.ShowSettings.{ShowSettings}
 
 -- reading goes no further: what is of this length is too long
 abbrev pub max_bytes_read : ℕ
@@ -62,6 +65,10 @@ file_sources names = map (λ name. source.AlwaysFile name) names
 
 abbrev pub sources_of : List Condition → List Source
 sources_of cs = map (λ c. c.source) cs
+
+-- its texts, and the files of its conditions
+abbrev pub IsReadForShow : ShowSettings → Source → Type 0
+IsReadForShow settings s = IsReadForRun settings.run s ⊎ IsAmongFiles settings.always_files.items s
 
 -- ---- texts
 
@@ -105,3 +112,7 @@ module _ (contents : Text → Option (List ℕ)) where
     pub always : AreAlwaysGiven (texts settings.always.items) (texts settings.always_files.items) (texts_of conditions.always.items)
     pub when_quiet : text_of conditions.when_quiet ≡ option_map (λ text. text.now) settings.when_quiet
     pub within : conditions.within ≡ None
+
+  pub record AreShownGiven (settings : ShowSettings) (conditions : List Condition) : Type 0 where
+    pub sources : sources_of conditions ≡ word_sources (length settings.always.items) ++ file_sources settings.always_files.items
+    pub always : AreAlwaysGiven (texts settings.always.items) (texts settings.always_files.items) (texts_of conditions)

@@ -30,22 +30,25 @@ use Rattle.clap.specs.Kinds.{IsAmong, Kinds}
 use Rattle.clap.specs.Values.{kind_of}
 use Rattle.clap.specs.Walk.{Text}
 use Rattle.asm_explore_tool.specs.Faults.{IsToldOf, IsUnread, status_of}
-use Rattle.asm_explore_tool.specs.GivenTexts.{AreGiven, AreRandomGiven, AreRunTexts, IsRead, IsReadForRun, IsText}
+use Rattle.asm_explore_tool.specs.GivenTexts.{AreGiven, AreRandomGiven, AreRunTexts, AreShownGiven, IsReadForShow, IsRead, IsReadForRun, IsText}
 use Rattle.asm_explore_tool.specs.declared.no_answer.NoAnswer.{NoAnswer}
 use Rattle.asm_explore_tool.specs.declared.no_answer.NoAnswer.TheVariants as no_answer
 use Rattle.asm_explore_random.specs.RandomReport.{ExplainsRandom, IsRandomReported}
 use Rattle.asm_explore_all.specs.AllReport.{ExplainsAll, IsReportedBy}
 use Rattle.asm_explore_all.specs.MadeFiles.{MadeFile, Makes}
 use Rattle.asm_explore_run.specs.RunReport.{AreChoicesReported, ExplainsRun, IsClashReported}
+use Rattle.asm_explore_run.specs.ShowReport.{ExplainsShow, IsShown}
 use Rattle.asm_explore_words.specs.WordsSaid.{AreSaidBehind, AskForHelp, task_refusals}
+use Rattle.asm_explore_texts.specs.declared.conditions.Condition.{Condition}
 use Rattle.asm_explore_texts.specs.declared.conditions.Conditions.{Conditions}
 use Rattle.asm_explore_report.specs.declared.report.Report.{Report}
 use Rattle.asm_explore_words.specs.declared.fault.Fault.{Fault}
 use Rattle.asm_explore_words.specs.declared.settings.RandomSettings.{RandomSettings}
 use Rattle.asm_explore_words.specs.declared.settings.RunSettings.{RunSettings}
 use Rattle.asm_explore_words.specs.declared.settings.Settings.{Settings}
+use Rattle.asm_explore_words.specs.declared.settings.ShowSettings.{ShowSettings}
 use Rattle.asm_explore_words.specs.declared.settings.Task.{Task}
-use Rattle.asm_explore_words.specs.declared.settings.Task.TheVariants.{All, Random, Choices, Clash}
+use Rattle.asm_explore_words.specs.declared.settings.Task.TheVariants.{All, Random, Choices, Clash, Show}
 
 abbrev pub AppendsUpTo : (old new : Option (List ℕ)) → List ℕ → Type 0
 AppendsUpTo old new text = (n : ℕ) × Appends old new (take n text)
@@ -73,12 +76,21 @@ module _ (contents : Text → Option (List ℕ)) (input : Option (List ℕ)) whe
     pub are_texts : AreRunTexts contents input settings text script_text
     pub reported : AreReported text script_text settings report
 
+  pub record IsReportOfShow (settings : ShowSettings) (report : Report) : Type 0 where
+    pub text : List ℕ
+    pub script_text : List ℕ
+    pub are_texts : AreRunTexts contents input settings.run text script_text
+    pub conditions : List Condition
+    pub given : AreShownGiven contents settings conditions
+    pub reported : IsShown text script_text conditions settings report
+
   -- of the files that are known to be made, before and after
   abbrev pub IsReportOf : (before after : Option (List MadeFile)) → Task → Report → Type 0
   IsReportOf before after (All settings) report = IsReportOfAll before after settings report
   IsReportOf before after (Random settings) report = Makes before after [] × IsReportOfRandom settings report
   IsReportOf before after (Choices settings) report = Makes before after [] × IsReportOfRun AreChoicesReported settings report
   IsReportOf before after (Clash settings) report = Makes before after [] × IsReportOfRun IsClashReported settings report
+  IsReportOf before after (Show settings) report = Makes before after [] × IsReportOfShow settings report
 
   -- ---- without a report
 
@@ -108,6 +120,16 @@ module _ (contents : Text → Option (List ℕ)) (input : Option (List ℕ)) whe
     pub is : IsToldOf text cause fault
     pub explained : ExplainsRun text script_text settings cause
 
+  pub record IsFaultOfShow (settings : ShowSettings) (fault : NoAnswer) : Type 0 where
+    pub text : List ℕ
+    pub script_text : List ℕ
+    pub are_texts : AreRunTexts contents input settings.run text script_text
+    pub conditions : List Condition
+    pub given : AreShownGiven contents settings conditions
+    pub cause : Fault
+    pub is : fault ≡ fault_of_report cause
+    pub explained : ExplainsShow text script_text conditions settings cause
+
   abbrev pub ExplainsTask : (before after : Option (List MadeFile)) → Task → NoAnswer → Type 0
   ExplainsTask before after (All settings) fault =
       (IsUnread (IsRead settings.spec settings.always_files.items) fault × Makes before after []) ⊎ IsFaultOfAll before after settings fault
@@ -115,6 +137,7 @@ module _ (contents : Text → Option (List ℕ)) (input : Option (List ℕ)) whe
       Makes before after [] × (IsUnread (IsRead settings.spec settings.always_files.items) fault ⊎ IsFaultOfRandom settings fault)
   ExplainsTask before after (Choices settings) fault = Makes before after [] × (IsUnread (IsReadForRun settings) fault ⊎ IsFaultOfRun settings fault)
   ExplainsTask before after (Clash settings) fault = Makes before after [] × (IsUnread (IsReadForRun settings) fault ⊎ IsFaultOfRun settings fault)
+  ExplainsTask before after (Show settings) fault = Makes before after [] × (IsUnread (IsReadForShow settings) fault ⊎ IsFaultOfShow settings fault)
 
 -- some text is written, which the library that reads the words has for them
 abbrev pub IsHelp : (IsWritten : List ℕ → Type 0) → Kinds → Type 0

@@ -28,6 +28,8 @@ pub enum NoAnswer<'w> {
     Graph(&'w str),
     /// The script to the first quiet state can't be written to the file of this name.
     QuietScript(&'w str),
+    /// No function and no location has this name, which is to be shown.
+    Name(&'w str),
     /// A run that is to be shown ends otherwise than it was found to, or it is refused though its
     /// texts are not.
     Unconfirmed,
@@ -43,7 +45,7 @@ impl<'w> NoAnswer<'w> {
             NoAnswer::Memory | NoAnswer::File(_) | NoAnswer::Write => 3,
             NoAnswer::Graph(_) | NoAnswer::QuietScript(_) => 3,
             NoAnswer::Unconfirmed => 3,
-            NoAnswer::Words(_) | NoAnswer::NotText => 4,
+            NoAnswer::Words(_) | NoAnswer::NotText | NoAnswer::Name(_) => 4,
         }
     }
 
@@ -97,6 +99,7 @@ impl<'w> From<Fault<'w>> for NoAnswer<'w> {
             Fault::Memory => NoAnswer::Memory,
             Fault::Graph(name) => NoAnswer::Graph(name),
             Fault::QuietScript(name) => NoAnswer::QuietScript(name),
+            Fault::Name(name) => NoAnswer::Name(name),
             Fault::Unconfirmed => NoAnswer::Unconfirmed,
         }
     }

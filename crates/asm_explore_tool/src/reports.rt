@@ -2,13 +2,13 @@
 ghost use Rattle.std.specs.Prelude.{◌≡◌, ◌⊎◌, [], false, Ok, Err, IfOk, IfErr};
 ghost use Rattle.asm_explore_words.specs.declared.fault.Fault.{Fault as Cause};
 ghost use Rattle.asm_explore_tool.specs.Faults.{IsToldOf, IsUnread};
-ghost use Rattle.asm_explore_tool.specs.GivenTexts.{IsRead, IsReadForRun};
-ghost use Rattle.asm_explore_tool.specs.Outputs.{ExplainsTask, IsFaultOfAll, IsFaultOfRandom, IsFaultOfRun, IsReportOf, IsReportOfAll, IsReportOfRandom, IsReportOfRun};
+ghost use Rattle.asm_explore_tool.specs.GivenTexts.{IsRead, IsReadForRun, IsReadForShow};
+ghost use Rattle.asm_explore_tool.specs.Outputs.{ExplainsTask, IsFaultOfAll, IsFaultOfRandom, IsFaultOfRun, IsFaultOfShow, IsReportOf, IsReportOfAll, IsReportOfRandom, IsReportOfRun, IsReportOfShow};
 ghost use Rattle.asm_explore_all.specs.MadeFiles.{Makes};
 ghost use Rattle.asm_explore_run.specs.RunReport.{AreChoicesReported, IsClashReported};
 ghost use Rattle.asm_explore_words.specs.WordsSaid.{reads_input_twice, reads_task_twice};
 
-use crate::given_texts::{conditions, random_conditions, text};
+use crate::given_texts::{always_given, conditions, random_conditions, text};
 use crate::no_answer::NoAnswer;
 use crate::progress_lines::ProgressLines;
 use crate::run_texts::run_texts;
@@ -19,8 +19,9 @@ use asm_explore_random::random_report::random_report;
 use asm_explore_report::report::Report;
 use asm_explore_run::choices_report::choices_report;
 use asm_explore_run::clash_report::clash_report;
+use asm_explore_run::show_report::show_report;
 use asm_explore_words::fault::{Fault, Source};
-use asm_explore_words::settings::{RandomSettings, RunSettings, Settings, Task};
+use asm_explore_words::settings::{RandomSettings, RunSettings, Settings, ShowSettings, Task};
 use asm_files::folder::Folder;
 use asm_random::RandomProgress;
 use asm_run::sink::Sink;
@@ -54,6 +55,7 @@ pub(crate) fn report<'w, R: Threads + Clock + Sync, F: Folder + NewFiles, I: Rea
         }
         Task::Choices(settings) => report_of_choices(rt, folder, alloc, settings, input),
         Task::Clash(settings) => report_of_clash(rt, folder, alloc, settings, input),
+        Task::Show(settings) => report_of_show(rt, folder, alloc, settings, input),
     }
 }
 
@@ -90,6 +92,26 @@ fn report_of_clash<'w, R: Threads + Sync, F: Folder, I: Read + Drop>(
     let texts = run_texts(folder, alloc, settings, input)?;
     let (text, script) = (texts.text.as_slice(), texts.script.as_slice());
     let report = clash_report(rt, alloc, text, script, settings)?;
+    Ok(report)
+}
+
+/// The table of the run that settings ask for.
+fn report_of_show<'w, R: Threads + Sync, F: Folder, I: Read + Drop>(
+    rt: &R,
+    folder: &F,
+    alloc: Global,
+    settings: &ShowSettings<'w>,
+    input: I,
+) -> Result<Report, NoAnswer<'w>>
+    requires { reads_input_twice settings.now.run ≡ false }
+    ensures report { IfOk result (IsReportOfShow (F.contents folder.now) (I.remaining input) settings.now) }
+    ensures explained { IfErr result (λ fault. IsUnread (IsReadForShow settings.now) fault ⊎ IsFaultOfShow (F.contents folder.now) (I.remaining input) settings.now fault) }
+{
+    let texts = run_texts(folder, alloc, &settings.run, input)?;
+    let names = settings.always_files.as_slice();
+    let conditions = always_given(folder, alloc, settings.always.as_slice(), names)?;
+    let (text, script) = (texts.text.as_slice(), texts.script.as_slice());
+    let report = show_report(rt, alloc, text, script, conditions.as_slice(), settings)?;
     Ok(report)
 }
 

@@ -12,10 +12,10 @@ use Rattle.clap.specs.declared.builder.command.Command.{Command}
 use Rattle.clap.specs.declared.builder.command.Command.TheViews.{out-Command}
 use Rattle.clap.proofs.SimpleLemmas.{is_false}
 use Rattle.clap.proofs.WalkLemmas.{both}
-use Rattle.asm_explore_words.specs.CommandLine.{command, commands, named, random_command, run_command}
+use Rattle.asm_explore_words.specs.CommandLine.{command, commands, named, random_command, run_command, show_command}
 
 pub is_free : is_simple_and_free commands ≡ true
-unfolding commands command random_command run_command
+unfolding commands command random_command run_command show_command
 is_free = refl
 
 pub command_is_plain : command.top.is_plain ≡ true
@@ -29,6 +29,10 @@ random_is_plain = refl
 pub run_is_plain : run_command.top.is_plain ≡ true
 unfolding run_command
 run_is_plain = refl
+
+pub show_is_plain : show_command.top.is_plain ≡ true
+unfolding show_command
+show_is_plain = refl
 
 -- an argument that is global is none of a plain command
 no_globals : (c : Command) (app : App) → app.top.is_plain ≡ true → app_of c ≡ app → (out-Command c).has_globals ≡ false

@@ -3,6 +3,7 @@ mod Options
 mod RandomOptions
 mod ReadTexts
 mod RunOptions
+mod ShowOptions
 mod UnsignedNumbers
 mod WordKinds
 mod WorkedWords

@@ -3,7 +3,7 @@ use Rattle.std.proofs.Common.{◌≡◌, List, [], ◌∷◌, codes, refl, inl, 
 use Rattle.clap.specs.Walk.{Text}
 use Rattle.clap.specs.declared.error.kind.ErrorKind.TheVariants.{ArgumentConflict, InvalidSubcommand, MissingRequiredArgument, MissingSubcommand, UnknownArgument, ValueValidation}
 use Rattle.clap.proofs.OnLiterals.{clap_on_literals}
-use Rattle.asm_explore_words.specs.CommandLine.{command, commands, random_command, run_command}
+use Rattle.asm_explore_words.specs.CommandLine.{command, commands, random_command, run_command, show_command}
 use Rattle.asm_explore_words.specs.WordsSaid.{AskForHelp, task_refusals}
 
 abbrev one : List Text
@@ -27,6 +27,10 @@ choices_are_taken : task_refusals (codes "choices" ∷ codes "-" ∷ codes "--sc
 unfolding run_command clap_on_literals
 choices_are_taken = refl
 
+shown_is_taken : task_refusals (codes "show" ∷ codes "--only" ∷ codes "f" ∷ codes "--only" ∷ codes "age(2)" ∷ codes "--width=40" ∷ one) ≡ []
+unfolding show_command clap_on_literals
+shown_is_taken = refl
+
 two_files_are_taken : task_refusals (codes "all" ∷ codes "--dot" ∷ codes "g" ∷ codes "--quiet" ∷ codes "s" ∷ one) ≡ []
 unfolding command clap_on_literals
 two_files_are_taken = refl
@@ -42,11 +46,11 @@ input_is_no_file = refl
 -- ---- what is refused
 
 no_words : task_refusals [] ≡ MissingSubcommand ∷ []
-unfolding commands command random_command run_command clap_on_literals
+unfolding commands command random_command run_command show_command clap_on_literals
 no_words = refl
 
 no_command : task_refusals one ≡ UnknownArgument ∷ InvalidSubcommand ∷ []
-unfolding commands command random_command run_command clap_on_literals
+unfolding commands command random_command run_command show_command clap_on_literals
 no_command = refl
 
 misspelt_option : task_refusals (codes "all" ∷ codes "--stepz" ∷ codes "5" ∷ one) ≡ UnknownArgument ∷ []
@@ -64,6 +68,14 @@ no_text = refl
 both_are_input : task_refusals (codes "clash" ∷ codes "-" ∷ codes "--script" ∷ codes "-" ∷ []) ≡ ArgumentConflict ∷ []
 unfolding run_command clap_on_literals
 both_are_input = refl
+
+too_narrow : task_refusals (codes "show" ∷ codes "--width" ∷ codes "39" ∷ one) ≡ ValueValidation ∷ []
+unfolding show_command clap_on_literals
+too_narrow = refl
+
+both_are_shown_input : task_refusals (codes "show" ∷ codes "-" ∷ codes "--script" ∷ codes "-" ∷ []) ≡ ArgumentConflict ∷ []
+unfolding show_command clap_on_literals
+both_are_shown_input = refl
 
 both_are_one_file : task_refusals (codes "all" ∷ codes "--dot" ∷ codes "f" ∷ codes "--quiet" ∷ codes "f" ∷ one) ≡ ArgumentConflict ∷ []
 unfolding command clap_on_literals
@@ -88,7 +100,7 @@ script_over_condition = refl
 -- ---- what is asked for
 
 help : AskForHelp (task_refusals (codes "--help" ∷ []))
-unfolding commands command random_command run_command clap_on_literals
+unfolding commands command random_command run_command show_command clap_on_literals
 help = inl (inl refl)
 
 help_of_all : AskForHelp (task_refusals (codes "all" ∷ codes "-h" ∷ []))
@@ -96,9 +108,9 @@ unfolding command clap_on_literals
 help_of_all = inl (inl refl)
 
 version : AskForHelp (task_refusals (codes "--version" ∷ []))
-unfolding commands command random_command run_command clap_on_literals
+unfolding commands command random_command run_command show_command clap_on_literals
 version = inr (inl refl)
 
 help_as_a_command : AskForHelp (task_refusals (codes "help" ∷ []))
-unfolding commands command random_command run_command clap_on_literals
+unfolding commands command random_command run_command show_command clap_on_literals
 help_as_a_command = inl (inl refl)

@@ -8,6 +8,9 @@
 --                                       and condition and for the seed, and two flags
 --     run_command, run_refusals words   after `choices` and `clash`: the text's file, and an option
 --                                       for each limit and for the script's file
+--     show_command, show_refusals words
+--                                       after `show`: the same, and an option for conditions, for
+--                                       files of conditions, for names and for the width
 --     commands, command_refusals words  all of them, one of which has to be named first. The kinds
 --                                       of what is wrong with words that name none
 use Rattle.std.specs.Prelude.{ℕ, false, true, List, [], ◌∷◌, Some, codes}
@@ -50,6 +53,9 @@ outcomes_option = record { name = codes "outcomes"; bounds = from_to 1 1_000_000
 
 abbrev pub runs_option : NumberOption
 runs_option = record { name = codes "runs"; bounds = from_to 1 1_000_000; default = Some (codes "1000") }
+
+abbrev pub width_option : NumberOption
+width_option = record { name = codes "width"; bounds = from_to 40 10_000; default = Some (codes "100") }
 
 -- ---- the commands
 
@@ -121,6 +127,27 @@ run_command = record {
 abbrev pub run_refusals : List Text → Kinds
 run_refusals words = fault_of run_command words
 
+unfoldable pub show_command : App
+show_command = record {
+  top = record (new_shape (codes "asm-explore show")) {
+    no_binary_name = true;
+    has_version = true;
+    rules = required (positional (codes "spec"))
+        ∷ number (steps_or_else (codes "1000"))
+        ∷ number turns_option
+        ∷ option (codes "script")
+        ∷ repeated (option (codes "always"))
+        ∷ repeated (option (codes "always-file"))
+        ∷ repeated (option (codes "only"))
+        ∷ number width_option
+        ∷ [];
+  };
+  subs = [];
+}
+
+abbrev pub show_refusals : List Text → Kinds
+show_refusals words = fault_of show_command words
+
 -- ---- all of them, one of which has to be named first
 
 abbrev pub named : Text → App → Shape
@@ -138,6 +165,7 @@ commands = record {
       ∷ named (codes "random") random_command
       ∷ named (codes "choices") run_command
       ∷ named (codes "clash") run_command
+      ∷ named (codes "show") show_command
       ∷ [];
 }
 

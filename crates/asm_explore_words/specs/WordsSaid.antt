@@ -5,10 +5,12 @@
 --     AreRandomSaid words settings  the same after `random`
 --     AreRunSaid words settings     the same after `choices` and `clash`: the text and the script
 --                                   aren't both standard input
+--     AreShowSaid words settings    the same after `show`
 --     AreSaidBehind words task      the first word names the command, and the others give its
 --                                   settings
 --     all_refusals words            the kinds of what is wrong with the words after `all`
 --     one_run_refusals words        the same after `choices` and `clash`
+--     all_show_refusals words       the same after `show`
 --     task_refusals words           the kinds of what is wrong with the command and the words behind
 --                                   it, none if they are taken
 --     AskForHelp kinds              words of these kinds ask for help or for the version
@@ -32,14 +34,15 @@ use Rattle.clap.specs.declared.parser.matches.ArgMatches.{ArgMatches}
 use Rattle.clap.specs.declared.parser.matches.Found.{Found}
 use Rattle.asm_limits.specs.Limits.{NumberOption, are_within, turns_option, workers_option}
 use Rattle.asm_arguments.specs.Numbers.{AreNumbers, HaveNumbers}
-use Rattle.asm_explore_words.specs.CommandLine.{command, command_refusals, most_unsigned, outcomes_option, refusals, random_command, random_refusals, run_command, run_refusals, runs_option, states_option, steps_or_else}
+use Rattle.asm_explore_words.specs.CommandLine.{command, command_refusals, most_unsigned, outcomes_option, refusals, random_command, random_refusals, run_command, run_refusals, runs_option, show_command, show_refusals, states_option, steps_or_else, width_option}
 use Rattle.asm_explore_words.specs.declared.settings.WordFault.{WordFault}
 use Rattle.asm_explore_words.specs.declared.settings.WordFault.TheVariants.{Memory, Words}
 use Rattle.asm_explore_words.specs.declared.settings.RandomSettings.{RandomSettings}
 use Rattle.asm_explore_words.specs.declared.settings.RunSettings.{RunSettings}
 use Rattle.asm_explore_words.specs.declared.settings.Settings.{Settings}
+use Rattle.asm_explore_words.specs.declared.settings.ShowSettings.{ShowSettings}
 use Rattle.asm_explore_words.specs.declared.settings.Task.{Task}
-use Rattle.asm_explore_words.specs.declared.settings.Task.TheVariants.{All, Random, Choices, Clash}
+use Rattle.asm_explore_words.specs.declared.settings.Task.TheVariants.{All, Random, Choices, Clash, Show}
 
 -- ---- the options with numbers, with what the settings have of each
 
@@ -55,6 +58,9 @@ random_numbers_of s = (steps_or_else (codes "1000"), s.steps) ∷ (turns_option,
 abbrev pub run_numbers_of : RunSettings → List (NumberOption × ℕ)
 run_numbers_of s = (steps_or_else (codes "1000"), s.steps) ∷ (turns_option, s.turns) ∷ []
 
+abbrev pub show_numbers_of : ShowSettings → List (NumberOption × ℕ)
+show_numbers_of s = (steps_or_else (codes "1000"), s.run.steps) ∷ (turns_option, s.run.turns) ∷ (width_option, s.width) ∷ []
+
 abbrev pub number_options : List NumberOption
 number_options = steps_or_else (codes "1000000") ∷ turns_option ∷ states_option ∷ outcomes_option ∷ workers_option ∷ []
 
@@ -63,6 +69,9 @@ random_number_options = steps_or_else (codes "1000") ∷ turns_option ∷ outcom
 
 abbrev pub run_number_options : List NumberOption
 run_number_options = steps_or_else (codes "1000") ∷ turns_option ∷ []
+
+abbrev pub show_number_options : List NumberOption
+show_number_options = steps_or_else (codes "1000") ∷ turns_option ∷ width_option ∷ []
 
 -- ---- each number is within its bounds
 
@@ -75,11 +84,15 @@ are_random_in_range s = are_within (random_numbers_of s)
 abbrev pub are_run_in_range : RunSettings → Bool
 are_run_in_range s = are_within (run_numbers_of s)
 
+abbrev pub are_show_in_range : ShowSettings → Bool
+are_show_in_range s = are_within (show_numbers_of s)
+
 abbrev pub is_task_in_range : Task → Bool
 is_task_in_range (All settings) = are_in_range settings
 is_task_in_range (Random settings) = are_random_in_range settings
 is_task_in_range (Choices settings) = are_run_in_range settings
 is_task_in_range (Clash settings) = are_run_in_range settings
+is_task_in_range (Show settings) = are_show_in_range settings
 
 -- the entry of an argument has a text, of a number of 64 bits
 pub record HasUnsigned (found : Found) (name : Text) : Type 0 where
@@ -112,6 +125,15 @@ pub record AreRunParsed (words : List Text) (matches : ArgMatches) : Type 0 wher
   pub rows : rows_of (found_of matches) ≡ run_rows words
   pub spec : is_some (first_value (found_of matches) (codes "spec")) ≡ true
   pub numbers : HaveNumbers (found_of matches) run_number_options
+
+-- the rows of the words after `show`
+abbrev pub show_rows : List Text → List Row
+show_rows words = matches_of show_command words
+
+pub record AreShowParsed (words : List Text) (matches : ArgMatches) : Type 0 where
+  pub rows : rows_of (found_of matches) ≡ show_rows words
+  pub spec : is_some (first_value (found_of matches) (codes "spec")) ≡ true
+  pub numbers : HaveNumbers (found_of matches) show_number_options
 
 -- the texts of an argument
 abbrev pub all_of : Text → List Row → List Text
@@ -205,6 +227,7 @@ reads_task_twice (All settings) = false
 reads_task_twice (Random settings) = false
 reads_task_twice (Choices settings) = reads_input_twice settings
 reads_task_twice (Clash settings) = reads_input_twice settings
+reads_task_twice (Show settings) = reads_input_twice settings.run
 
 -- the words ask for both from standard input
 abbrev pub are_both_input : List Text → Bool
@@ -215,6 +238,23 @@ AreRunTaken words = (run_refusals words ≡ []) × (are_both_input words ≡ fal
 
 abbrev pub AreRunSaid : List Text → RunSettings → Type 0
 AreRunSaid words settings = AreRunTaken words × AreRunRead (run_rows words) settings
+
+pub record AreShowRead (rows : List Row) (settings : ShowSettings) : Type 0 where
+  pub spec : first_of (codes "spec") rows ≡ Some settings.run.spec.now
+  pub numbers : AreNumbers rows (show_numbers_of settings)
+  pub script : option_map (λ text. text.now) settings.run.script ≡ first_of (codes "script") rows
+  pub always : texts settings.always.items ≡ all_of (codes "always") rows
+  pub always_files : texts settings.always_files.items ≡ all_of (codes "always-file") rows
+  pub names : texts settings.names.items ≡ all_of (codes "only") rows
+
+abbrev pub are_both_shown_input : List Text → Bool
+are_both_shown_input words = is_input (first_of (codes "spec") (show_rows words)) && is_input (first_of (codes "script") (show_rows words))
+
+abbrev pub IsShowTaken : List Text → Type 0
+IsShowTaken words = (show_refusals words ≡ []) × (are_both_shown_input words ≡ false)
+
+abbrev pub AreShowSaid : List Text → ShowSettings → Type 0
+AreShowSaid words settings = IsShowTaken words × AreShowRead (show_rows words) settings
 
 -- ---- faults
 
@@ -227,6 +267,9 @@ all_refusals words = kinds.or_else (refusals words) (cond (are_one_file words) (
 
 abbrev pub one_run_refusals : List Text → Kinds
 one_run_refusals words = kinds.or_else (run_refusals words) (cond (are_both_input words) (ArgumentConflict ∷ []) [])
+
+abbrev pub all_show_refusals : List Text → Kinds
+all_show_refusals words = kinds.or_else (show_refusals words) (cond (are_both_shown_input words) (ArgumentConflict ∷ []) [])
 
 abbrev pub IsFaultOf : Error → WordFault → Type 0
 IsFaultOf error Memory = kind_of error ≡ OutOfMemory
@@ -244,6 +287,7 @@ AreSaidBehind (command ∷ words) (All settings) = (command ≡ codes "all") × 
 AreSaidBehind (command ∷ words) (Random settings) = (command ≡ codes "random") × (random_refusals words ≡ []) × AreRandomSaid words settings
 AreSaidBehind (command ∷ words) (Choices settings) = (command ≡ codes "choices") × AreRunSaid words settings
 AreSaidBehind (command ∷ words) (Clash settings) = (command ≡ codes "clash") × AreRunSaid words settings
+AreSaidBehind (command ∷ words) (Show settings) = (command ≡ codes "show") × AreShowSaid words settings
 
 -- the kinds of what is wrong with the words after this command; `words` are all words
 abbrev pub refusals_behind : (command : Text) → (rest words : List Text) → Kinds
@@ -251,7 +295,8 @@ refusals_behind command rest words =
     cond (bytes_eq command (codes "all")) (all_refusals rest)
     (cond (bytes_eq command (codes "random")) (random_refusals rest)
     (cond (bytes_eq command (codes "choices") || bytes_eq command (codes "clash")) (one_run_refusals rest)
-    (command_refusals words)))
+    (cond (bytes_eq command (codes "show")) (all_show_refusals rest)
+    (command_refusals words))))
 
 abbrev pub task_refusals : List Text → Kinds
 task_refusals [] = command_refusals []

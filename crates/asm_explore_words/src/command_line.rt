@@ -16,6 +16,7 @@ use crate::help;
 use crate::number_options::{OUTCOMES, RUN_STEPS, STATES, STEPS, TURNS, WORKERS};
 use crate::random_words::{random, random_settings};
 use crate::settings::{RunSettings, Settings, Task, WordFault, is_standard_input, two_in_one};
+use crate::show_words::{show, show_settings};
 use crate::text_options::{
     ALWAYS, ALWAYS_FILE, DEADLOCK_UNLESS, DOT, PROGRESS, QUIET, SCRIPT, TRACE, WITHIN,
 };
@@ -36,6 +37,9 @@ const CHOICES: &str = "choices";
 
 /// The command that shows the assignments by which one run ends.
 const CLASH: &str = "clash";
+
+/// The command that shows one run as a table.
+const SHOW: &str = "show";
 
 /// The command `choices` as its help shows it.
 const CALLED_CHOICES: &str = "asm-explore choices";
@@ -88,6 +92,9 @@ pub fn settings<'w, S: AsStr>(alloc: Global, words: &'w [S]) -> Result<Task<'w>,
         )?)),
         Some((command, words)) if command.as_str() == CLASH => {
             Ok(Task::Clash(run_settings(alloc, CALLED_CLASH, help::CLASH, words)?))
+        }
+        Some((command, words)) if command.as_str() == SHOW => {
+            Ok(Task::Show(show_settings(alloc, words)?))
         }
         _ => Err(without_command(alloc, words)),
     }
@@ -326,7 +333,8 @@ fn commands<'w>(alloc: Global) -> Result<Command<'w>, AllocError>
     let choices = run_command(alloc, CALLED_CHOICES, help::CHOICES);
     let commands = with(commands, CHOICES, choices)?;
     let clash = run_command(alloc, CALLED_CLASH, help::CLASH);
-    with(commands, CLASH, clash)
+    let commands = with(commands, CLASH, clash)?;
+    with(commands, SHOW, show(alloc))
 }
 
 /// The commands and one more, which has this name.

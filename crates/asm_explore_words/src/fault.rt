@@ -60,6 +60,8 @@ pub enum Fault<'w> {
     Graph(&'w str),
     /// The script to the first quiet state can't be written to the file of this name.
     QuietScript(&'w str),
+    /// No function and no location has this name, which is to be shown.
+    Name(&'w str),
     /// A run that is to be shown ends otherwise than it was found to, or it is refused though its
     /// texts are not.
     Unconfirmed,

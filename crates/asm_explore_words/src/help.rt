@@ -15,11 +15,16 @@ pub const CHOICES: &str = "Shows the choices of one run, as a script that makes 
 
 pub const CLASH: &str = "Shows the assignments by which one run ends";
 
+pub const SHOW: &str = "Shows one run as a table, above a script that makes it";
+
 pub const COMMAND_FIRST: &str = "the command comes first";
 
 pub const SPEC: &str = "The file that has the specification; - is standard input";
 
 pub const SCRIPT: &str = "Read the choices from this file; - is standard input [without it: none]";
+
+pub const ONLY: &str =
+    "Show this function, or this location as in `age(2)`; may be repeated [without it: all that change]";
 
 pub const ONE_INPUT: &str = "the specification and the script can't both be standard input";
 
@@ -81,6 +86,31 @@ Status:
   3  out of memory, a file can't be read, or the output can't be written
   4  the command line is wrong
   6  the run made all its steps, and a line of the script met no choose (`choices` alone)";
+
+/// What is below the options of `show`.
+pub const AFTER_SHOW: &str = "\
+The output is a script: each line is `STEP PATH NUMBER`, or a comment, which begins with `# `. The
+first line says how the run ends:
+  limit after step N            all of its N steps were made
+  fault in step N: clash ..     step N fails as it does in asm; so do outside and exhausted
+  fault after step N: condition K is false
+                                after step N the Kth condition isn't true; the run is shown up to
+                                this state
+
+Then come a call of asm that makes the run, where THIS is a file that has the whole output, and the
+table: a row for the first state and one for each step, with what is chosen in it and the values of
+the locations, a dot for a value that is as in the row before, and a hyphen for undef. If a step
+fails, its row has no values, and below the table stand the assignments by which it does, as `clash`
+shows them. Without --only each location is shown that changes in the run, 200 of them at most. The
+script has a line for each choice that isn't the first candidate.
+
+Status:
+  0  the run made all its steps; or help or the version was asked for
+  1  the run ended early: clash, outside or exhausted; or a condition isn't true
+  2  the specification, the script or a condition is refused
+  3  out of memory, a file can't be read, or the output can't be written
+  4  the command line is wrong, or a name of --only is in no location
+  6  the run made all its steps, and a line of the given script met no choose";
 
 /// What is below the options of `random`.
 pub const AFTER_RANDOM: &str = "\

@@ -10,4 +10,5 @@ mod number_options;
 mod random_words;
 pub mod sentences;
 pub mod settings;
+mod show_words;
 mod text_options;

@@ -55,3 +55,7 @@ pub(crate) const RANDOM_OUTCOMES: NumberOption = NumberOption {
 /// Of `RandomSettings::runs`.
 pub(crate) const RUNS: NumberOption =
     number_option!("runs", "Make at most N runs", 1 to 1_000_000, Some("1000"));
+
+/// Of `ShowSettings::width`.
+pub(crate) const WIDTH: NumberOption =
+    number_option!("width", "Write lines of at most N bytes", 40 to 10_000, Some("100"));

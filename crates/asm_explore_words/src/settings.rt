@@ -20,6 +20,8 @@ pub enum Task<'w> {
     Choices(RunSettings<'w>),
     /// To show the assignments by which one run ends.
     Clash(RunSettings<'w>),
+    /// To show one run as a table.
+    Show(ShowSettings<'w>),
 }
 
 /// What the words after `all` ask for.
@@ -93,6 +95,21 @@ pub struct RunSettings<'w> {
     pub turns: u32,
     /// The name of the script's file, if there is one; `-` is standard input.
     pub script: Option<&'w str>,
+}
+
+/// What the words after `show` ask for.
+#[derive(Debug, Drop)]
+pub struct ShowSettings<'w> {
+    /// The run that is shown.
+    pub run: RunSettings<'w>,
+    /// The conditions that are to be true in each state, in the order of the words.
+    pub always: Vec<&'w str>,
+    /// The names of the files of further such conditions.
+    pub always_files: Vec<&'w str>,
+    /// The functions and locations that are shown; if there are none, each location that changes.
+    pub names: Vec<&'w str>,
+    /// A line has at most this many bytes, unless one column alone is wider.
+    pub width: u32,
 }
 
 /// Why words ask for nothing that can be done.

@@ -51,6 +51,13 @@ pub(crate) const SCRIPT: Argument = Argument::Text {
     help: help::SCRIPT,
 };
 
+/// Of `ShowSettings::names`.
+pub(crate) const ONLY: Argument = Argument::Texts {
+    name: "only",
+    shown: "NAME",
+    help: help::ONLY,
+};
+
 /// Of `Settings::trace`.
 pub(crate) const TRACE: Argument = Argument::Flag {
     name: "trace",

@@ -43,5 +43,6 @@ abbrev pub ExplainsWriting : (name text : List ℕ) → (old new : Option (List 
 ExplainsWriting name text old new (fault.Graph file) = (file.now ≡ name) × StopsAt old new file.now ((name, text) ∷ [])
 ExplainsWriting name text old new (fault.Text refused) = ⊥
 ExplainsWriting name text old new (fault.QuietScript file) = ⊥
+ExplainsWriting name text old new (fault.Name file) = ⊥
 ExplainsWriting name text old new fault.Memory = ⊥
 ExplainsWriting name text old new fault.Unconfirmed = ⊥

@@ -1,6 +1,6 @@
 use Rattle.std.proofs.Common.{◌∙◌, ◌∷◌, ◌++◌, [], List, ℕ, ap, append_assoc, codes}
 use Rattle.std.specs.Prelude.{option_map}
-use Rattle.asm_explore_report.specs.Comments.{lines_of}
+use Rattle.asm_explore_texts.specs.Comments.{lines_of}
 use Rattle.asm_explore_all.specs.AllFacts.{count_line, quiet_line}
 use Rattle.asm_explore_all.proofs.facts.add_counts.Goals as goal
 

@@ -1,6 +1,6 @@
 use Rattle.std.proofs.Common.{◌≡◌, ◌∷◌, ◌++◌, [], ℕ, List, sym, subst}
 use Rattle.std.specs.Prelude.{OnOk}
-use Rattle.asm_explore_report.specs.Comments.{lines_of}
+use Rattle.asm_explore_texts.specs.Comments.{lines_of}
 use Rattle.asm_explore_all.specs.code.GraphFiles.{graph_lines}
 use Rattle.asm_explore_all.proofs.facts.add_graph_note.Goals as goal
 

@@ -1,7 +1,7 @@
 use Rattle.std.proofs.Common.{◌≡◌, ◌∙◌, ◌∷◌, ◌++◌, [], ap, append_assoc}
 use Rattle.std.specs.Prelude.{option_map}
 use Rattle.std.specs.String.{string_bytes}
-use Rattle.asm_explore_report.specs.Comments.{lines_of}
+use Rattle.asm_explore_texts.specs.Comments.{lines_of}
 use Rattle.asm_explore_report.specs.ShownRuns.{shown_of}
 use Rattle.asm_explore_all.specs.AllFacts.{all_looked_for, command_lines, condition_lines, count_lines, shown_in}
 use Rattle.asm_explore_all.specs.code.GraphFiles.{graph_lines}

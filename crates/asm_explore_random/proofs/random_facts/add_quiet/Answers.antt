@@ -1,6 +1,6 @@
 use Rattle.std.proofs.Common.{◌≡◌, ◌∷◌, ◌++◌, [], List, ℕ, subst}
 use Rattle.std.specs.Prelude.{OnOk}
-use Rattle.asm_explore_report.specs.Comments.{lines_of}
+use Rattle.asm_explore_texts.specs.Comments.{lines_of}
 use Rattle.asm_explore_report.specs.Facts.{condition_line}
 use Rattle.asm_explore_random.proofs.random_facts.add_quiet.Goals as goal
 

@@ -1,7 +1,7 @@
 use Rattle.std.proofs.Common.{◌≡◌, ◌∙◌, ◌∷◌, ◌++◌, [], ap, append_assoc}
 use Rattle.std.specs.String.{string_bytes}
 use Rattle.asm_explore_texts.specs.Conditions.{text_of, texts_of}
-use Rattle.asm_explore_report.specs.Comments.{lines_of}
+use Rattle.asm_explore_texts.specs.Comments.{lines_of}
 use Rattle.asm_explore_report.specs.Facts.{always_lines}
 use Rattle.asm_explore_random.specs.RandomFacts.{looked_for_words, quiet_lines, random_counts, run_lines}
 use Rattle.asm_explore_random.proofs.random_facts.random_facts.Goals as goal

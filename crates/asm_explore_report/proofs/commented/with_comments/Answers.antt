@@ -1,11 +1,11 @@
 use Rattle.std.proofs.Common.{◌≡◌, ◌∷◌, ◌++◌, [], length, take, get_or, ap, subst, arith, ◌∙◌}
 use Rattle.std.proofs.lemmas.Result.{err_from_is_err_and}
 use Rattle.asm_explore.specs.WrittenScripts.{IsTextRefusal, line_said, line_text, numbers_of_line}
-use Rattle.asm_explore_report.specs.Comments.{comments, lines_of}
+use Rattle.asm_explore_texts.specs.Comments.{comments, lines_of}
 use Rattle.asm_explore_report.specs.Commented.{entries_text, entry_text}
 use Rattle.asm_explore_report.specs.declared.commented.Entry.{Entry}
 use Rattle.asm_explore_report.proofs.WholeLines.{longer_already, refused_within}
-use Rattle.asm_explore_report.proofs.commented.with_comments.Goals as goal
+use Rattle.asm_explore_texts.proofs.commented.with_comments.Goals as goal
 
 pub returns-in_err-add_entry-clause-refused : goal.returns-in_err-add_entry-clause-refused
 returns-in_err-add_entry-clause-refused c =

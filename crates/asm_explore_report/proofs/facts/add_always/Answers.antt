@@ -2,7 +2,7 @@ use Rattle.std.proofs.Common.{rules, ◌≡◌, ◌∙◌, ◌+◌, ◌∷◌, �
 use Rattle.std.specs.String.{string_bytes}
 use Rattle.asm_explore_texts.specs.Conditions.{texts_of}
 use Rattle.asm_explore_texts.specs.declared.conditions.Condition.{Condition}
-use Rattle.asm_explore_report.specs.Comments.{lines_of}
+use Rattle.asm_explore_texts.specs.Comments.{lines_of}
 use Rattle.asm_explore_report.specs.Facts.{condition_line, lines_from}
 use Rattle.asm_explore_report.proofs.ConditionLines.{line_more}
 use Rattle.asm_explore_report.proofs.facts.add_always.Goals as goal

@@ -1,6 +1,6 @@
 use Rattle.std.proofs.Common.{◌≡◌, ◌+◌, ◌++◌, drop}
 use Rattle.asm_explore_texts.specs.Conditions.{texts_of}
-use Rattle.asm_explore_report.specs.Comments.{lines_of}
+use Rattle.asm_explore_texts.specs.Comments.{lines_of}
 use Rattle.asm_explore_report.specs.Facts.{always_lines, lines_from}
 use Rattle.asm_explore_report.proofs.facts.add_always.Given as goal
 

@@ -1,5 +1,5 @@
 use Rattle.std.proofs.Common.{List, ℕ, Option, subst}
-use Rattle.asm_explore_report.specs.Comments.{lines_of}
+use Rattle.asm_explore_texts.specs.Comments.{lines_of}
 use Rattle.asm_explore_report.specs.Printed.{AreTraceLines, IsReportText}
 use Rattle.asm_explore_report.specs.ShownRuns.{Shown, script_of, shown_of}
 use Rattle.asm_explore_report.proofs.PrintedScripts.{printed_says}

@@ -1,6 +1,6 @@
 use Rattle.std.proofs.Common.{◌≡◌, ◌==◌, ◌∙◌, true, false, length, get_or, sym, ap, arith}
 use Rattle.std.specs.Prelude.{◌∷◌, ◌++◌, [], slice_range}
-use Rattle.asm_explore_report.specs.Comments.{lines_of}
+use Rattle.asm_explore_texts.specs.Comments.{lines_of}
 use Rattle.asm_explore_report.proofs.TraceText.{line_ends, line_goes_on, last_line, no_last_line}
 use Rattle.asm_explore_report.proofs.trace_lines.add_lines.Goals as goal
 

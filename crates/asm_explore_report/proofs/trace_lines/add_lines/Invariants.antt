@@ -1,6 +1,6 @@
 use Rattle.std.proofs.Common.{◌≡◌, ◌≤◌, ◌++◌, drop}
 use Rattle.std.specs.Prelude.{slice_range}
-use Rattle.asm_explore_report.specs.Comments.{lines_of}
+use Rattle.asm_explore_texts.specs.Comments.{lines_of}
 use Rattle.asm_explore_report.specs.TraceLines.{lines_behind, text_lines}
 use Rattle.asm_explore_report.proofs.trace_lines.add_lines.Given as goal
 

@@ -3,7 +3,7 @@ use Rattle.std.proofs.lemmas.List.{length-map}
 use Rattle.asm_syntax.specs.code.Views.{spec_of}
 use Rattle.asm_run.specs.Written.{names_in}
 use Rattle.asm_explore.specs.RunChoices.{asked_in, choices_in, lines_forward}
-use Rattle.asm_explore_report.specs.Comments.{lines_of}
+use Rattle.asm_explore_texts.specs.Comments.{lines_of}
 use Rattle.asm_explore_report.specs.EndWords.{IsRunLine}
 use Rattle.asm_explore_run.specs.ChoicesText.{IsChoicesText}
 use Rattle.asm_explore_run.specs.RunReport.{choices_status}

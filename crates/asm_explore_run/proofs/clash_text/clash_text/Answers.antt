@@ -6,7 +6,7 @@ use Rattle.asm_syntax.specs.code.Views.{spec_of}
 use Rattle.asm_reader.specs.ScriptText.{max_script}
 use Rattle.asm_run.specs.Written.{names_in}
 use Rattle.asm_clash.specs.declared.assignment.Assignment.{Assignment}
-use Rattle.asm_explore_report.specs.Comments.{comment, comments}
+use Rattle.asm_explore_texts.specs.Comments.{comment, comments}
 use Rattle.asm_explore_run.specs.ClashText.{AreLinesOf, IsLineOf, clash_text, greatest_shown, more}
 use Rattle.asm_explore_run.proofs.ClashLines.{as_many, found_at, lines_more, one_more, too_many, with_rest}
 use Rattle.asm_explore_run.proofs.clash_text.clash_text.Goals as goal

@@ -3,7 +3,7 @@ use Rattle.std.specs.Prelude.{◌⊎◌}
 use Rattle.asm_syntax.specs.code.Views.{spec_of}
 use Rattle.asm_reader.specs.ScriptText.{max_script}
 use Rattle.asm_run.specs.Written.{names_in}
-use Rattle.asm_explore_report.specs.Comments.{comments}
+use Rattle.asm_explore_texts.specs.Comments.{comments}
 use Rattle.asm_explore_run.specs.ClashText.{AreLinesOf, more}
 use Rattle.asm_explore_run.proofs.clash_text.clash_text.Given as goal
 

@@ -1,5 +1,5 @@
 use Rattle.std.proofs.Common.{◌∙◌, ap, sym}
-use Rattle.asm_explore_report.specs.Comments.{lines_of}
+use Rattle.asm_explore_texts.specs.Comments.{lines_of}
 use Rattle.asm_explore_run.specs.UnmetLines.{unmet_line}
 use Rattle.asm_explore_run.specs.code.LineKeys.{has_said}
 use Rattle.asm_explore_run.proofs.UnmetTexts.{said_more, said_same}

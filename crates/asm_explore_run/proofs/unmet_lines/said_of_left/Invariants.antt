@@ -1,6 +1,6 @@
 use Rattle.std.proofs.Common.{◌≡◌, map, take}
 use Rattle.std.specs.Str.Lines.{strip_carriage_return}
-use Rattle.asm_explore_report.specs.Comments.{lines_of}
+use Rattle.asm_explore_texts.specs.Comments.{lines_of}
 use Rattle.asm_explore_run.specs.code.LineKeys.{left_from}
 use Rattle.asm_explore_run.proofs.unmet_lines.said_of_left.Given as goal
 

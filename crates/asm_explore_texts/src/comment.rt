@@ -1,6 +1,6 @@
 //! Lines that a script skips.
 ghost use Rattle.std.specs.Prelude.{◌≡◌, ◌∷◌, ◌++◌, IfOk, OnOk};
-ghost use Rattle.asm_explore_report.specs.Comments as comments;
+ghost use Rattle.asm_explore_texts.specs.Comments as comments;
 
 use std::alloc::{AllocError, Global};
 
@@ -8,6 +8,9 @@ use std::alloc::{AllocError, Global};
 pub fn add_comment(text: &mut Vec<u8>, comment: &[u8]) -> Result<(), AllocError>
     ensures { OnOk result (text.new.items ≡ text.old.items ++ comments.comment comment.now) }
 {
+    if comment.is_empty() {
+        return text.extend_from_slice(b"#\n");
+    }
     text.extend_from_slice(b"# ")?;
     add_in_one_line(text, comment)?;
     text.push(b'\n')?;

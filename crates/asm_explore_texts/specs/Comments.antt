@@ -12,8 +12,10 @@ shown byte = cond (byte == 10) 32 byte
 abbrev pub in_one_line : List ℕ → List ℕ
 in_one_line bytes = map shown bytes
 
+-- without a line there is no blank
 abbrev pub comment : List ℕ → List ℕ
-comment line = codes "# " ++ (in_one_line line ++ 10 ∷ [])
+comment [] = codes "#\n"
+comment (byte ∷ line) = codes "# " ++ (in_one_line (byte ∷ line) ++ 10 ∷ [])
 
 abbrev pub comments : List (List ℕ) → List ℕ
 comments lines = flat_map comment lines

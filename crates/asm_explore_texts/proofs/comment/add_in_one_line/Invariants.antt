@@ -1,6 +1,6 @@
 use Rattle.std.proofs.Common.{◌≡◌, ◌++◌, take}
-use Rattle.asm_explore_report.specs.Comments.{in_one_line}
-use Rattle.asm_explore_report.proofs.comment.add_in_one_line.Given as goal
+use Rattle.asm_explore_texts.specs.Comments.{in_one_line}
+use Rattle.asm_explore_texts.proofs.comment.add_in_one_line.Given as goal
 
 abbrev pub invariant-loop-byte : goal.invariant-loop-byte
 invariant-loop-byte l = l.text.items ≡ l.initial.text.items ++ in_one_line (take l.byte-index l.bytes)

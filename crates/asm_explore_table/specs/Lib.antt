@@ -1,0 +1,5 @@
+pub mod ChosenTexts
+pub mod Lines
+pub mod Rows
+pub mod Tables
+pub mod code

@@ -1,0 +1,4 @@
+-- Bridge to the code. What connects the definitions of this crate to its code.
+pub mod ChoiceTexts
+pub mod Extents
+pub mod StepsMade
