@@ -173,8 +173,9 @@ fn write<'w, F: NewFiles>(files: &mut F, name: &'w str, text: &String) -> Result
     }
 }
 
-/// Writes the graph of states to the file of this name, if one is given, with the run that shows what is found. If the graph has too many states, this run alone
-/// is written; or nothing, if there is none.
+/// Writes the graph of states to the file of this name, if one is given, with the run that shows
+/// what is found. If the graph has too many states, this run alone is written; or nothing, if there
+/// is none.
 #[tactic(auto, using(crate::proofs::GrowingFiles::makes_none))]
 pub(crate) fn draw<'w, F: NewFiles>(
     files: &mut F,

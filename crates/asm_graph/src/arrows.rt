@@ -48,7 +48,8 @@ fn push_given(
     Ok(())
 }
 
-/// Adds elements of foralls, each behind its variable, and what stands behind them, if there are any.
+/// Adds elements of foralls, each behind its variable, and what stands behind them, if there are
+/// any.
 fn push_elements(
     alloc: Global,
     label: &mut Vec<u8>,
@@ -241,8 +242,8 @@ impl<'a> Drawing<'a> {
     }
 }
 
-/// The edges of a graph of a specification, in order, with what is written at them.
-/// Those that are marked are red.
+/// The edges of a graph of a specification, in order, with what is written at them. Those that are
+/// marked are red.
 pub(crate) fn arrows(
     alloc: Global,
     checked: &Checked,

@@ -242,7 +242,8 @@ fn text_of(
 
 /// The text of a graph of a specification, for Graphviz: a line for each node, in order, then one
 /// for each fault that some edge has, and then one for each edge, in order, with the names of the
-/// specification's text, those that are marked in red. Its last line alone is `}`, so that one that is cut off is seen to be.
+/// specification's text. Edges that are marked are red. Its last line alone is `}`, so that one that
+/// is cut off is seen to be.
 pub fn dot_text(
     alloc: Global,
     checked: &Checked,
