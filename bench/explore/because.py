@@ -1,5 +1,5 @@
-"""Why a condition isn't true in a state, worked out on the trees of reader.py by the rules of docs/REFERENCE.md: which part decides, the names
-that are bound there, and what it reads. A chain in parentheses at the front of a chain of the same operations isn't told apart from it."""
+"""Why a condition isn't true in a state, worked out on the trees of reader.py as
+docs/FINDING_FAULTS.md says: which part decides, which names are bound there, and what it reads."""
 import model
 
 STRENGTHS = {
@@ -9,36 +9,60 @@ STRONGEST = 7
 COMPARED = 3
 
 
+def bare(term):
+    """The term without the parentheses around it."""
+    return term[1] if term[0] == "(" else term
+
+
 def strength(term):
-    return STRENGTHS.get(term[0], STRONGEST)
+    """How tightly a term holds together, without the parentheses around it."""
+    return STRENGTHS.get(bare(term)[0], STRONGEST)
 
 
-def enclosed(term, least):
-    """The text of a term, in parentheses if it holds together less than that."""
-    return text_of(term) if strength(term) >= least else f"({text_of(term)})"
+class Printer:
+    """Prints terms, with no parentheses but those that they need, and one blank between words."""
+
+    def blank(self, needed):
+        return needed
+
+    def is_enclosed(self, term, least):
+        return strength(term) < least
+
+    def enclosed(self, term, least):
+        """The text of a term, in parentheses if it holds together less than that."""
+        if not self.is_enclosed(term, least):
+            return self.text(term)
+        return f"({self.blank('')}{self.text(term)}{self.blank('')})"
+
+    def text(self, term):
+        term = bare(term)
+        kind, blank = term[0], self.blank
+        if kind == "constant":
+            return str(term[1])
+        if kind == "name":
+            arguments = f",{blank(' ')}".join(self.text(argument) for argument in term[2])
+            return f"{term[1]}({arguments})" if arguments else term[1]
+        if kind == "result":
+            return "result"
+        if kind == "not":
+            return f"not{blank(' ')}{self.enclosed(term[1], STRENGTHS['not'] + 1)}"
+        if kind == "minus":
+            return f"-{self.enclosed(term[1], STRONGEST)}"
+        if kind in ("exists", "forall"):
+            words = [f"({kind}", term[1], "in", term[2], "with" if kind == "exists" else "holds"]
+            return "".join(word + blank(" ") for word in words) + f"{self.text(term[3])})"
+        own = strength(term)
+        # The front of a chain is no operand. Comparisons alone don't form chains.
+        is_front = STRENGTHS.get(term[1][0]) == own != COMPARED
+        left = self.text(term[1]) if is_front else self.enclosed(term[1], own + 1)
+        return f"{left}{blank(' ')}{kind}{blank(' ')}{self.enclosed(term[2], own + 1)}"
+
+
+PLAIN = Printer()
 
 
 def listed(arguments):
     return f"({', '.join(arguments)})" if arguments else ""
-
-
-def text_of(term):
-    kind = term[0]
-    if kind == "constant":
-        return str(term[1])
-    if kind == "name":
-        return term[1] + listed([text_of(argument) for argument in term[2]])
-    if kind == "result":
-        return "result"
-    if kind == "not":
-        return f"not {enclosed(term[1], STRENGTHS['not'] + 1)}"
-    if kind == "minus":
-        return f"-{enclosed(term[1], STRONGEST)}"
-    if kind in ("exists", "forall"):
-        return f"({kind} {term[1]} in {term[2]} {'with' if kind == 'exists' else 'holds'} {text_of(term[3])})"
-    own = strength(term)
-    # Comparisons alone don't form chains.
-    return f"{enclosed(term[1], own + (own == COMPARED))} {kind} {enclosed(term[2], own + 1)}"
 
 
 def operands(term, operation):
@@ -69,7 +93,9 @@ class Reasons:
         return (self.value(term, bound) == "true") != wanted
 
     def inner(self, term, bound, wanted, strictly):
-        """The part that decides it, with the names that are bound there, what is wanted, and whether only the opposite counts; or None."""
+        """The part that decides it, with the names that are bound there, what is wanted, and
+        whether only the opposite counts; or None."""
+        term = bare(term)
         kind = term[0]
         if kind == "name":
             return self.body(term, bound, wanted, strictly)
@@ -94,13 +120,22 @@ class Reasons:
         values = [self.value(argument, bound) for argument in arguments]
         return derived.body, list(zip(derived.parameters, values)), wanted, strictly
 
-    def because(self, condition):
+    def decided(self, condition):
+        """The part that decides in the end, as `inner` has it."""
         part = (condition, [], True, False)
         while inner := self.inner(*part):
             part = inner
-        term, bound = part[:2]
-        named = [f"{name} = {value}" for at, (name, value) in enumerate(bound) if name not in dict(bound[:at])]
-        return ", ".join([f"because: {text_of(term)} is {self.value(term, bound)}", *named, *self.read(term, bound)])
+        return bare(part[0]), *part[1:]
+
+    def because(self, condition):
+        """The line for a condition that isn't true."""
+        term, bound = self.decided(condition)[:2]
+        said = f"because: {PLAIN.text(term)} is {self.value(term, bound)}"
+        seen = {}
+        for name, value in bound:
+            seen.setdefault(name, value)
+        named = [f"{name} = {value}" for name, value in seen.items()]
+        return ", ".join([said, *named, *self.read(term, bound)])
 
     def read(self, term, bound):
         """What a term reads, each once."""

@@ -122,6 +122,8 @@ class Step:
         kind = term[0]
         if kind == "constant":
             return term[1]
+        if kind == "(":
+            return self.term(term[1], bound, state)
         if kind == "name":
             return self.named(term[1], term[2], bound, state)
         if kind == "result":

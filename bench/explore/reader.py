@@ -7,6 +7,9 @@ GAP = re.compile(r"(?:[ \t\r\n]+|//[^\n]*|/\*.*?\*/)+", re.DOTALL)
 TOKEN = re.compile(r"[A-Za-z_][A-Za-z0-9_]*|[0-9]+|:=|!=|<=|>=|<-|->|\.\.|[(){},:=<>+*-]")
 COMPARISONS = ("=", "!=", "<", "<=", ">", ">=")
 
+# Of these, and of chains of them, a tree keeps the parentheses around them.
+OPERATIONS = ("or", "and", *COMPARISONS, "+", "-", "*", "div", "mod")
+
 
 class Marked(tuple):
     """A rule with the offset of a name in it: of the variable of a choose, or of what an assignment changes."""
@@ -255,7 +258,7 @@ class Reader:
         kind = self.has("exists", "forall")
         inner = self.quantified(kind) if kind else self.term()
         self.wants(")")
-        return inner
+        return ("(", inner) if inner[0] in OPERATIONS else inner
 
     def quantified(self, kind):
         name = self.take()

@@ -5,7 +5,7 @@ ghost use Rattle.asm_syntax.specs.code.Views.{spec_of};
 ghost use Rattle.asm_syntax.specs.declared.term.Term.{Term as Code};
 ghost use Rattle.asm_run.specs.Headline.{IsAccepted};
 ghost use Rattle.asm_explore_texts.specs.code.CodedConditions.{IsJoined, terms_in};
-ghost use Rattle.asm_explore_report.specs.Comments.{lines_of};
+ghost use Rattle.asm_explore_texts.specs.Comments.{lines_of};
 ghost use Rattle.asm_explore_all.specs.AllReport.{ExplainsAll, IsReport, IsReportedBy, WordsTell, status_of as found_status};
 ghost use Rattle.asm_explore_all.specs.code.CodedQuestions.{IsAskedBy, plain};
 ghost use Rattle.asm_explore_all.specs.code.GraphFiles.{graph_lines};

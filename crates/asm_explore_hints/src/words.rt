@@ -4,7 +4,7 @@ use std::alloc::{AllocError, Global};
 use std::convert::AsStr;
 
 /// The commands, in quotes.
-static COMMANDS: [&str; 4] = ["'all'", "'random'", "'choices'", "'clash'"];
+static COMMANDS: [&str; 5] = ["'all'", "'random'", "'choices'", "'clash'", "'show'"];
 
 /// The options whose value is a condition.
 static CONDITIONS: [&str; 3] = ["--always", "--deadlock-unless", "--within"];

@@ -6,7 +6,7 @@ ghost use Rattle.asm_syntax.specs.declared.term.Term.{Term as Code};
 ghost use Rattle.asm_run.specs.Headline.{IsAccepted};
 ghost use Rattle.asm_explore_texts.specs.code.CodedConditions.{IsJoined, terms_in};
 ghost use Rattle.asm_explore_random.specs.code.CodedRuns.{IsAskedBy, plain};
-ghost use Rattle.asm_explore_report.specs.Comments.{lines_of};
+ghost use Rattle.asm_explore_texts.specs.Comments.{lines_of};
 ghost use Rattle.asm_explore_random.specs.RandomReport.{ExplainsRandom, IsRandomReport, IsRandomReported, RandomTells, random_line, random_status};
 
 use crate::random_asked::{CheckedRandomQuestion, ask_random};

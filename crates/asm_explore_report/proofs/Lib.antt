@@ -1,6 +1,7 @@
 mod AndLinks
 mod AskedTerms
 mod BetweenLines
+mod BrokenRuns
 mod ConditionLines
 mod JoinedTerms
 mod PrintedScripts

@@ -1,4 +1,5 @@
 pub mod AskedConditions
+pub mod BrokenRuns
 pub mod Commands
 pub mod Commented
 pub mod EndWords

@@ -8,7 +8,7 @@ ghost use Rattle.asm_syntax.specs.declared.term.Term.{Term as Code};
 ghost use Rattle.asm_check.specs.Shapes.{shape_of};
 ghost use Rattle.asm_meaning.specs.Value.{is_true};
 ghost use Rattle.asm_explore_texts.specs.code.CodedConditions.{IsJoined, terms_in};
-ghost use Rattle.asm_explore_report.specs.Comments.{lines_of};
+ghost use Rattle.asm_explore_texts.specs.Comments.{lines_of};
 ghost use Rattle.asm_explore_report.specs.FaultWords.{IsBroken, broken_words, value_in};
 
 use crate::told::Told;

@@ -18,7 +18,7 @@ ghost use Rattle.asm_explore.specs.Search.{steps_to};
 ghost use Rattle.asm_run.specs.Headline.{IsAccepted};
 ghost use Rattle.asm_explore_texts.specs.code.CodedConditions.{IsJoined, terms_in};
 ghost use Rattle.asm_meaning.specs.Run.{IsAfter};
-ghost use Rattle.asm_explore_report.specs.Comments.{lines_of};
+ghost use Rattle.asm_explore_texts.specs.Comments.{lines_of};
 ghost use Rattle.asm_explore_report.specs.FaultWords.{BadTells, IsBroken};
 
 use crate::broken_condition::broken_in;

@@ -1,6 +1,6 @@
 //! What is said of a fault.
 ghost use Rattle.std.specs.Prelude.{◌≡◌, []};
-ghost use Rattle.asm_explore_report.specs.Comments.{lines_of};
+ghost use Rattle.asm_explore_texts.specs.Comments.{lines_of};
 
 use std::alloc::Global;
 

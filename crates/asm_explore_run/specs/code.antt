@@ -2,3 +2,4 @@
 pub mod EndStatuses
 pub mod LineKeys
 pub mod NameOffsets
+pub mod ShownEnds

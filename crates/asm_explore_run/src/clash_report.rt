@@ -39,7 +39,7 @@ fn status_of(clash: &ClashOfRun) -> u8
 }
 
 /// The assignments by which a run ends.
-fn assignments(clash: &ClashOfRun) -> &[Assignment]
+pub(crate) fn assignments(clash: &ClashOfRun) -> &[Assignment]
     ensures { result.now ≡ assignments_in clash.now }
 {
     match clash {
@@ -49,7 +49,7 @@ fn assignments(clash: &ClashOfRun) -> &[Assignment]
 }
 
 /// How many assignments there are by which a run ends.
-fn count_of(clash: &ClashOfRun) -> u64
+pub(crate) fn count_of(clash: &ClashOfRun) -> u64
     ensures { result ≡ count_in clash.now }
 {
     match clash {

@@ -1,14 +1,29 @@
 //! What is printed of a run as a table.
-use crate::run_end::ended;
-use crate::show_text::{ShownEnd, show_text};
-use crate::shown_assignments::assignments_shown;
+ghost use Rattle.std.specs.Prelude.{◌≡◌, ◌+◌, ◌≤◌, ◌×◌, All, false, true, List, IfErr, IfNone, IfOk, IfSome};
+ghost use Rattle.asm_syntax.specs.SourceTree.{Term as SourceTerm};
+ghost use Rattle.asm_syntax.specs.code.Views.{spec_of};
+ghost use Rattle.asm_reader.specs.ScriptText.{IsScript};
+ghost use Rattle.asm_run.specs.Headline.{IsAccepted};
+ghost use Rattle.asm_explore.specs.RunChoices.{AreChoices, lines_forward};
+ghost use Rattle.asm_explore.specs.declared.outcomes.listed_outcome.Choice.{Choice};
+ghost use Rattle.asm_explore_texts.specs.Comments.{lines_of};
+ghost use Rattle.asm_explore_texts.specs.Conditions.{AreAskedOf, texts_of};
+ghost use Rattle.asm_explore_texts.specs.RefusedTexts.{ExplainsText, IsOneRefused};
+ghost use Rattle.asm_explore_report.specs.BrokenRuns.{HoldBefore, IsFirstBroken};
+ghost use Rattle.asm_explore_run.specs.ShowReport.{ExplainsShow, IsShown, IsShowText, names_shown, show_status};
+ghost use Rattle.asm_explore_run.specs.ShownRun.{IsShownEnd};
+ghost use Rattle.asm_explore_run.specs.UnmetLines as unmet;
+ghost use Rattle.asm_explore_run.specs.code.ShownEnds.{end_said, IsFirstBrokenAsked};
+
+use crate::show_text::show_text;
+use crate::shown_end::{ShownEnd, broken_end, whole_end};
 use crate::unmet_lines::unmet_lines;
 use asm_check::Checked;
 use asm_explore::{choices_of_run, lines_of_run};
 use asm_explore_report::broken_run::{BrokenState, first_broken};
 use asm_explore_report::checked_text::{all_asked, checked};
 use asm_explore_report::fault_words::Subject;
-use asm_explore_report::first_line::of_broken;
+use asm_explore_report::laws::all_asked_law;
 use asm_explore_report::report::Report;
 use asm_explore_table::names::unknown_name;
 use asm_explore_texts::conditions::Condition;
@@ -19,58 +34,14 @@ use asm_reader::Script;
 use std::alloc::{AllocError, Global};
 use std::thread::Threads;
 
-/// The end of a run that is shown up to a state in which a condition isn't true.
-fn broken_end(alloc: Global, broken: &BrokenState) -> Result<ShownEnd, AllocError> {
-    let first = of_broken(alloc, broken.steps, broken.words.as_slice())?;
-    Ok(ShownEnd {
-        first,
-        steps: broken.steps,
-        assignments: Vec::new(alloc),
-        is_fault: true,
-    })
-}
-
-/// The end of a run that is shown up to its end.
-fn run_end<'w, R: Threads + Sync>(
-    rt: &R,
-    alloc: Global,
-    text: &[u8],
-    checked: &Checked,
-    script_text: &[u8],
-    script: &Script,
-    settings: &RunSettings<'w>,
-) -> Result<ShownEnd, Fault<'w>> {
-    let ended = ended(rt, alloc, text, script_text, settings)?;
-    let first = ended.line(alloc, checked, settings.steps)?;
-    let assignments = assignments_shown(alloc, text, checked, script, settings, &ended.end)?;
-    let step = ended.end.step();
-    Ok(ShownEnd {
-        first,
-        steps: steps_of(step, settings.steps),
-        assignments,
-        is_fault: step.is_some(),
-    })
-}
-
-/// How many steps a run has: those up to the one in which it ends, if it does, or all.
-fn steps_of(step: Option<u64>, all: u32) -> u32 {
-    match step {
-        Some(step) => match u32::try_from(step) {
-            Ok(step) => step,
-            Err(_) => all,
-        },
-        None => all,
-    }
-}
-
 /// The status of a run, if it has a fault, and else if all lines of its script are met.
-fn status_of(is_fault: bool, all_met: bool) -> u8 {
-    if is_fault {
-        1
-    } else if all_met {
-        0
-    } else {
-        6
+fn status_of(is_fault: bool, unmet: &[Vec<u8>]) -> u8
+    ensures { result ≡ show_status is_fault (lines_of unmet.now) }
+{
+    match (is_fault, unmet) {
+        (true, _) => 1,
+        (false, []) => 0,
+        (false, _) => 6,
     }
 }
 
@@ -82,10 +53,14 @@ fn unmet_of(
     script_text: &[u8],
     script: &Script,
     steps: u32,
-) -> Result<Vec<Vec<u8>>, AllocError> {
+) -> Result<Vec<Vec<u8>>, AllocError>
+    ensures { IfOk result (λ unmet. (made : List (List Choice)) × AreChoices (spec_of checked.now.spec) turns script.now steps made
+        × (lines_of unmet.items ≡ unmet.unmet_lines script_text.now (lines_forward made))) }
+{
     let run = choices_of_run(alloc, checked, turns, script, steps)?;
     let made = lines_of_run(alloc, &run)?;
-    unmet_lines(alloc, script_text, made.as_slice())
+    let unmet = unmet_lines(alloc, script_text, made.as_slice())?;
+    Ok(unmet)
 }
 
 /// What is printed of the run of a specification, and of its end.
@@ -96,11 +71,16 @@ fn report_of_end(
     script: &Script,
     settings: &ShowSettings<'_>,
     end: &ShownEnd,
-) -> Result<Report, AllocError> {
+) -> Result<Report, AllocError>
+    ensures { let s = spec_of checked.now.spec in let turns = settings.now.run.turns in
+        IfOk result (λ report. (made : List (List Choice)) × AreChoices s turns script.now end.now.steps made
+        × IsShowText s turns script.now settings.now.run.spec.now (names_shown settings.now) (end_said end.now) (unmet.unmet_lines script_text.now (lines_forward made)) report.text.items
+        × (report.status ≡ show_status end.now.is_fault (unmet.unmet_lines script_text.now (lines_forward made)))) }
+{
     let turns = settings.run.turns;
     let unmet = unmet_of(alloc, checked, turns, script_text, script, end.steps)?;
     let text = show_text(alloc, checked, script, settings, end, unmet.as_slice())?;
-    let status = status_of(end.is_fault, unmet.is_empty());
+    let status = status_of(end.is_fault, unmet.as_slice());
     Ok(Report { text, status })
 }
 
@@ -110,8 +90,12 @@ fn broken_of<'w>(
     checked: &Checked,
     script: &Script,
     conditions: &[Condition<'w>],
-    settings: &RunSettings<'w>,
-) -> Result<Option<BrokenState>, Fault<'w>> {
+    settings: &RunSettings<'_>,
+) -> Result<Option<BrokenState>, Fault<'w>>
+    ensures found { IfOk result (IsFirstBrokenAsked (spec_of checked.now.spec) (texts_of conditions.now) settings.now.turns script.now settings.now.steps) }
+    ensures refused { IfErr result (ExplainsText (IsOneRefused (spec_of checked.now.spec) conditions.now)) }
+{
+    all_asked_law();
     let always = all_asked(alloc, checked, conditions)?;
     let subject = Subject {
         checked,
@@ -131,14 +115,19 @@ fn report_of<'w, R: Threads + Sync>(
     script_text: &[u8],
     conditions: &[Condition<'w>],
     settings: &ShowSettings<'w>,
-) -> Result<Report, Fault<'w>> {
+) -> Result<Report, Fault<'w>>
+    requires accepted { IsAccepted text.now (spec_of checked.now.spec) }
+    ensures reported { IfOk result (IsShown text.now script_text.now conditions.now settings.now) }
+    ensures explained { IfErr result (ExplainsShow text.now script_text.now conditions.now settings.now) }
+{
     let script = script_given(alloc, script_text, &settings.run)?;
     if let Some(name) = unknown_name(alloc, checked, settings.names.as_slice())? {
         return Err(Fault::Name(name));
     }
-    let end = match broken_of(alloc, checked, &script, conditions, &settings.run)? {
-        Some(broken) => broken_end(alloc, &broken)?,
-        None => run_end(rt, alloc, text, checked, script_text, &script, &settings.run)?,
+    let run = &settings.run;
+    let end = match broken_of(alloc, checked, &script, conditions, run)? {
+        Some(broken) => broken_end(alloc, broken)?,
+        None => whole_end(rt, alloc, text, checked, script_text, &script, run)?,
     };
     let report = report_of_end(alloc, checked, script_text, &script, settings, &end)?;
     Ok(report)
@@ -153,7 +142,10 @@ pub fn show_report<'w, R: Threads + Sync>(
     script_text: &[u8],
     conditions: &[Condition<'w>],
     settings: &ShowSettings<'w>,
-) -> Result<Report, Fault<'w>> {
+) -> Result<Report, Fault<'w>>
+    ensures reported { IfOk result (IsShown text.now script_text.now conditions.now settings.now) }
+    ensures explained { IfErr result (ExplainsShow text.now script_text.now conditions.now settings.now) }
+{
     let checked = checked(alloc, text, settings.run.spec)?;
     let report = report_of(
         rt,

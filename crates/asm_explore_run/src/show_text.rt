@@ -1,26 +1,23 @@
 //! The text of a run that is shown as a table.
+ghost use Rattle.std.specs.Prelude.{◌≡◌, ◌∷◌, ◌++◌, ◌×◌, ◌⊎◌, ℕ, List, Bool, length, IfNone, IfOk, IfSome, OnOk};
+ghost use Rattle.std.specs.String.{string_bytes};
+ghost use Rattle.asm_syntax.specs.code.Views.{spec_of};
+ghost use Rattle.asm_meaning.specs.Declarations.{specification_of};
+ghost use Rattle.asm_explore.specs.ChosenLines.{AreTooLong, IsChosenText, chosen_lines};
+ghost use Rattle.asm_explore_texts.specs.Comments.{lines_of};
+ghost use Rattle.asm_explore_run.specs.ShowReport.{IsScriptPart, IsShowText, names_shown};
+ghost use Rattle.asm_explore_run.specs.code.ShownEnds.{end_said};
+
+use crate::shown_end::ShownEnd;
 use asm_check::Checked;
 use asm_explore::{ResolvedQuestion, chosen_text};
 use asm_explore_report::command::command;
-use asm_explore_texts::comment::{add_comment, add_comments, comments};
 use asm_explore_table::table::{TableSettings, add_table};
+use asm_explore_texts::comment::{add_comment, add_comments, comments};
 use asm_explore_words::settings::ShowSettings;
 use asm_reader::Script;
 use asm_resolve::main_rule::resolve_main;
 use std::alloc::{AllocError, Global};
-
-/// How a run that is shown ends.
-#[derive(Drop)]
-pub(crate) struct ShownEnd {
-    /// In a line.
-    pub(crate) first: Vec<u8>,
-    /// After this many steps, or in the step with this number.
-    pub(crate) steps: u32,
-    /// The lines of the assignments by which it does.
-    pub(crate) assignments: Vec<Vec<u8>>,
-    /// Whether that is a fault.
-    pub(crate) is_fault: bool,
-}
 
 /// The text of the script that the run needs, if it can be written.
 fn script_of(
@@ -29,7 +26,12 @@ fn script_of(
     turns: u32,
     script: &Script,
     steps: u32,
-) -> Result<Option<String>, AllocError> {
+) -> Result<Option<String>, AllocError>
+    ensures some { let s = specification_of (spec_of checked.now.spec) in
+        IfOk result (λ found. IfSome found (λ text. IsChosenText s turns script.now steps (string_bytes text))) }
+    ensures none { let s = specification_of (spec_of checked.now.spec) in
+        IfOk result (λ found. IfNone found (AreTooLong (chosen_lines s turns script.now steps))) }
+{
     let code = resolve_main(alloc, checked)?;
     let question = ResolvedQuestion {
         checked,
@@ -53,7 +55,9 @@ fn add_script(
     turns: u32,
     script: &Script,
     steps: u32,
-) -> Result<(), AllocError> {
+) -> Result<(), AllocError>
+    ensures { OnOk result ((part : List ℕ) × IsScriptPart (spec_of checked.now.spec) turns script.now steps part × (text.new.items ≡ text.old.items ++ part)) }
+{
     match script_of(alloc, checked, turns, script, steps)? {
         Some(lines) => text.extend_from_slice(lines.as_bytes()),
         None => add_comment(text, b"left out: the script"),
@@ -69,9 +73,11 @@ pub(crate) fn show_text(
     settings: &ShowSettings<'_>,
     end: &ShownEnd,
     unmet: &[Vec<u8>],
-) -> Result<Vec<u8>, AllocError> {
+) -> Result<Vec<u8>, AllocError>
+    ensures { IfOk result (λ text. IsShowText (spec_of checked.now.spec) settings.now.run.turns script.now settings.now.run.spec.now (names_shown settings.now) (end_said end.now) (lines_of unmet.now) text.items) }
+{
     let (steps, turns) = (end.steps, settings.run.turns);
-    let mut text = comments(alloc, end.first.as_slice(), &[])?;
+    let mut text = comments(alloc, end.first.as_slice(), end.because.as_slice())?;
     let call = command(alloc, u64::from(steps), turns, settings.run.spec)?;
     add_comment(&mut text, call.as_slice())?;
     let shown = TableSettings {

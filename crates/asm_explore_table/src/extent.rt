@@ -156,7 +156,7 @@ impl Extent {
             ≡ (slice_index_or self.old.changed.items n false || differs (location_at shape n) (row_said shape before.now row.now))) }
         ensures chooses { OnOk result (self.new.chooses ≡ (self.old.chooses || asks (map asked_said row.now.asked.items))) }
     {
-        self.steps += 1;
+        self.steps = self.steps.saturating_add(1);
         self.add_chosen(alloc, checked, row)?;
         if let Some(after) = &row.next {
             note_changes(self.changed.as_mut_slice(), before, after);
@@ -184,7 +184,7 @@ pub(crate) fn run_extent<P: Picks>(
     for done in 0..steps {
         let row = step_row(alloc, resolved, script, u64::from(done) + 1, &state)?;
         extent.add(alloc, checked, &state, &row)?;
-        match row.next {
+        match row.into_next() {
             Some(next) => state = next,
             None => return Ok(extent),
         }

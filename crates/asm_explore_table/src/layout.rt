@@ -104,10 +104,26 @@ impl Begun {
         }
     }
 
-    /// Whether the block would be wider with it than this.
-    fn is_wider_with(&self, column: &Unplaced, width: usize) -> bool {
+    /// Whether it has a column, and would be wider with this one than that.
+    fn is_full_with(&self, column: &Unplaced, width: usize) -> bool {
+        if self.block.columns.is_empty() {
+            return false;
+        }
         let end = self.start_of(column).saturating_add(column.width);
         end.max(self.name_end_of(column)).saturating_add(MARK) > width
+    }
+
+    /// The block, once it has all its columns.
+    fn into_block(self) -> Block
+        ensures { result ≡ self.block }
+    {
+        let Begun {
+            block,
+            end: _,
+            function: _,
+            name_end: _,
+        } = self;
+        block
     }
 
     /// Adds a column.
@@ -128,20 +144,10 @@ impl Begun {
     }
 }
 
-/// How many digits a number has.
-fn digits(number: u64) -> usize {
-    let mut digits = 1;
-    let mut left = number / 10;
-    while left > 0 {
-        digits += 1;
-        left /= 10;
-    }
-    digits
-}
-
 /// How wide the column of the steps' numbers is.
-pub(crate) fn step_width(extent: &Extent) -> usize {
-    digits(extent.steps).max(LEAST_STEP_WIDTH)
+pub(crate) fn step_width(alloc: Global, extent: &Extent) -> Result<usize, AllocError> {
+    let last = format!(in alloc; "{}", extent.steps)?;
+    Ok(last.len().max(LEAST_STEP_WIDTH))
 }
 
 /// The first block, before it has columns.
@@ -158,6 +164,16 @@ fn first_block(alloc: Global, extent: &Extent, width: usize) -> Begun
     }
 }
 
+/// Ends a block, and begins the next one.
+fn end_block(blocks: &mut Vec<Block>, begun: &mut Begun, next: Begun) -> Result<(), AllocError>
+    ensures ended { OnOk result (blocks.new.items ≡ blocks.old.items ++ begun.old.block ∷ []) }
+    ensures begun { OnOk result (begun.new ≡ next) }
+{
+    let ended = std::mem::replace(begun, next);
+    blocks.push(ended.into_block())?;
+    Ok(())
+}
+
 /// The blocks of these columns, each as wide as this or of one column.
 pub(crate) fn blocks(
     alloc: Global,
@@ -171,17 +187,16 @@ pub(crate) fn blocks(
     ensures all { IfOk result (λ blocks. flat_map locations_of blocks.items ≡ columns.now) }
     ensures chosen { IfOk result (λ blocks. AreBlocks extent.now.chooses blocks.items) }
 {
-    let steps = step_width(extent);
+    let steps = step_width(alloc, extent)?;
     let mut blocks = Vec::new(alloc);
     let mut begun = first_block(alloc, extent, steps);
     for k in 0..columns.len() {
         let column = Unplaced::of(alloc, checked, extent, columns[k])?;
-        if !begun.block.columns.is_empty() && begun.is_wider_with(&column, width) {
-            let ended = std::mem::replace(&mut begun, Begun::new(alloc, None, steps));
-            blocks.push(ended.block)?;
+        if begun.is_full_with(&column, width) {
+            end_block(&mut blocks, &mut begun, Begun::new(alloc, None, steps))?;
         }
         begun.add(&column)?;
     }
-    blocks.push(begun.block)?;
+    blocks.push(begun.into_block())?;
     Ok(blocks)
 }

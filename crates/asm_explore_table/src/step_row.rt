@@ -22,9 +22,20 @@ pub(crate) struct StepRow {
     pub(crate) next: Option<State>,
 }
 
+impl StepRow {
+    /// The state that the step leads to, unless the run ends in it.
+    pub(crate) fn into_next(self) -> Option<State>
+        ensures { result ≡ self.next }
+    {
+        let StepRow { asked, next } = self;
+        drop(asked);
+        next
+    }
+}
+
 /// The state that a step leads to, unless the run ends in it.
 fn next_of(made: Step) -> Option<State>
-    ensures { (shape : Shape) (yields : Yielded) (old : List Value) → IsStateOf shape old → Comes shape yields old made.entry →
+    ensures { (shape : Shape) (yields : Yielded) (old : List Value) → IsStateOf shape old → Comes shape yields old made →
         IfSome result (IsStateOf shape) × (option_map (state_of shape) result ≡ led (state_of shape old) yields) }
 {
     match made {

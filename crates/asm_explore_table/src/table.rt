@@ -44,8 +44,8 @@ struct TableRun<'r, P: Picks> {
 
 /// Adds the heads of a block.
 fn add_heads(alloc: Global, out: &mut Vec<u8>, frame: Frame<'_>) -> Result<(), AllocError>
-    requires { IsWithin (count_of (shape_of (spec_of frame.entry.checked.now.spec))) frame.entry.block.now }
-    ensures { OnOk result (out.new.items ≡ out.old.items ++ comments (heads (spec_of frame.entry.checked.now.spec) frame.entry.width frame.entry.block.now)) }
+    requires { IsWithin (count_of (shape_of (spec_of frame.checked.now.spec))) frame.block.now }
+    ensures { OnOk result (out.new.items ≡ out.old.items ++ comments (heads (spec_of frame.checked.now.spec) frame.width frame.block.now)) }
 {
     let head = first_head(alloc, frame.checked, frame.width, frame.block)?;
     add_comment(out, head.as_slice())?;
@@ -63,11 +63,11 @@ fn add_rows<P: Picks>(
     frame: Frame<'_>,
 ) -> Result<(), AllocError>
     requires main { HasMainRule run.now.resolved }
-    requires checked { frame.entry.checked.now ≡ run.now.resolved.checked.now }
-    requires within { IsWithin (count_of (shape_in run.now.resolved)) frame.entry.block.now }
+    requires checked { frame.checked.now ≡ run.now.resolved.checked.now }
+    requires within { IsWithin (count_of (shape_in run.now.resolved)) frame.block.now }
     ensures { let m = run.now.resolved in let s = spec_of m.checked.now.spec in
         OnOk result (out.new.items ≡ out.old.items
-        ++ comments (first_row s frame.entry.width frame.entry.block.now (specification_of s).initial ∷ rows_from s frame.entry.width frame.entry.block.now 1 (rows_of s m.turns (P.script run.now.script.now) run.now.steps))) }
+        ++ comments (first_row s frame.width frame.block.now (specification_of s).initial ∷ rows_from s frame.width frame.block.now 1 (rows_of s m.turns (P.script run.now.script.now) run.now.steps))) }
 {
     let mut state = State::initial(alloc, run.resolved.checked.signature())?;
     add_first_row(alloc, out, frame, &state)?;
@@ -75,7 +75,7 @@ fn add_rows<P: Picks>(
         let number = u64::from(done) + 1;
         let row = step_row(alloc, &run.resolved, run.script, number, &state)?;
         add_row(alloc, out, frame, number, &state, &row)?;
-        match row.next {
+        match row.into_next() {
             Some(next) => state = next,
             None => return Ok(()),
         }
@@ -178,7 +178,8 @@ fn add_table_of<P: Picks>(
     let all = columns(alloc, checked, settings.names, extent)?;
     let shown = shown(settings.names, all.as_slice());
     let blocks = blocks(alloc, checked, shown, extent, settings.width as usize)?;
-    add_blocks(alloc, out, run, step_width(extent), blocks.as_slice())?;
+    let width = step_width(alloc, extent)?;
+    add_blocks(alloc, out, run, width, blocks.as_slice())?;
     add_more(alloc, out, all.len() - shown.len())
 }
 
@@ -200,12 +201,12 @@ fn add_found<P: Picks>(
 
 /// Adds the table of the run of a specification under a script, of at most `steps` steps, as
 /// comments.
-pub fn add_table<P: Picks>(
+pub fn add_table<'x, P: Picks>(
     alloc: Global,
     out: &mut Vec<u8>,
-    checked: &Checked,
+    checked: &'x Checked,
     turns: u32,
-    script: &P,
+    script: &'x P,
     steps: u32,
     settings: TableSettings<'_>,
 ) -> Result<(), AllocError>

@@ -24,4 +24,5 @@ told_plainly text (cause.Text refused) = (None, tt, refl)
 told_plainly text cause.Memory = refl
 told_plainly text (cause.Graph name) = refl
 told_plainly text (cause.QuietScript name) = refl
+told_plainly text (cause.Name name) = refl
 told_plainly text cause.Unconfirmed = refl

@@ -60,6 +60,7 @@ IsToldOf text (report.Text refused) fault = (specification : Option (Vec ℕ Glo
 IsToldOf text report.Memory fault = fault ≡ Memory
 IsToldOf text (report.Graph name) fault = fault ≡ Graph name
 IsToldOf text (report.QuietScript name) fault = fault ≡ QuietScript name
+IsToldOf text (report.Name name) fault = fault ≡ Name name
 IsToldOf text report.Unconfirmed fault = fault ≡ Unconfirmed
 
 abbrev pub fault_of_no_words : NoWords → NoAnswer

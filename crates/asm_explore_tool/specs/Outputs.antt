@@ -127,7 +127,7 @@ module _ (contents : Text → Option (List ℕ)) (input : Option (List ℕ)) whe
     pub conditions : List Condition
     pub given : AreShownGiven contents settings conditions
     pub cause : Fault
-    pub is : fault ≡ fault_of_report cause
+    pub is : IsToldOf text cause fault
     pub explained : ExplainsShow text script_text conditions settings cause
 
   abbrev pub ExplainsTask : (before after : Option (List MadeFile)) → Task → NoAnswer → Type 0

@@ -4,13 +4,13 @@ ghost use Rattle.clap.specs.Walk.{texts};
 ghost use Rattle.asm_explore_texts.specs.Conditions.{text_of, texts_of};
 ghost use Rattle.asm_files.specs.Input.{IsFront};
 ghost use Rattle.asm_explore_tool.specs.Faults.{IsUnread};
-ghost use Rattle.asm_explore_tool.specs.GivenTexts.{AreAlwaysGiven, AreFronts, AreGiven, AreRandomGiven, IsAmongFiles, IsText, file_sources, max_bytes_read, sources_of, word_sources};
+ghost use Rattle.asm_explore_tool.specs.GivenTexts.{AreAlwaysGiven, AreFronts, AreGiven, AreRandomGiven, AreShownGiven, IsAmongFiles, IsText, file_sources, max_bytes_read, sources_of, word_sources};
 ghost use Rattle.asm_explore_words.specs.declared.fault.Source.TheVariants as sources;
 
 use crate::no_answer::NoAnswer;
 use asm_explore_texts::conditions::{Condition, Conditions};
 use asm_explore_words::fault::Source;
-use asm_explore_words::settings::{RandomSettings, Settings};
+use asm_explore_words::settings::{RandomSettings, Settings, ShowSettings};
 use asm_files::folder::Folder;
 use asm_files::input;
 use std::alloc::{AllocError, Global};
@@ -164,4 +164,18 @@ pub(crate) fn random_conditions<'w, F: Folder>(
         when_quiet,
         within: None,
     })
+}
+
+/// The conditions that the settings of `show` give.
+pub(crate) fn shown_conditions<'w, F: Folder>(
+    folder: &F,
+    alloc: Global,
+    settings: &ShowSettings<'w>,
+) -> Result<Vec<Condition<'w>>, NoAnswer<'w>>
+    ensures given { IfOk result (λ all. AreShownGiven (F.contents folder.now) settings.now all.items) }
+    ensures unread { IfErr result (IsUnread (IsAmongFiles settings.now.always_files.items)) }
+{
+    let names = settings.always_files.as_slice();
+    let always = always_given(folder, alloc, settings.always.as_slice(), names)?;
+    Ok(always)
 }

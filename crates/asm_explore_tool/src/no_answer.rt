@@ -58,6 +58,7 @@ impl<'w> NoAnswer<'w> {
             Fault::Memory => NoAnswer::Memory,
             Fault::Graph(name) => NoAnswer::Graph(name),
             Fault::QuietScript(name) => NoAnswer::QuietScript(name),
+            Fault::Name(name) => NoAnswer::Name(name),
             Fault::Unconfirmed => NoAnswer::Unconfirmed,
         }
     }

@@ -8,7 +8,7 @@ ghost use Rattle.asm_explore_all.specs.MadeFiles.{Makes};
 ghost use Rattle.asm_explore_run.specs.RunReport.{AreChoicesReported, IsClashReported};
 ghost use Rattle.asm_explore_words.specs.WordsSaid.{reads_input_twice, reads_task_twice};
 
-use crate::given_texts::{always_given, conditions, random_conditions, text};
+use crate::given_texts::{conditions, random_conditions, shown_conditions, text};
 use crate::no_answer::NoAnswer;
 use crate::progress_lines::ProgressLines;
 use crate::run_texts::run_texts;
@@ -108,8 +108,7 @@ fn report_of_show<'w, R: Threads + Sync, F: Folder, I: Read + Drop>(
     ensures explained { IfErr result (λ fault. IsUnread (IsReadForShow settings.now) fault ⊎ IsFaultOfShow (F.contents folder.now) (I.remaining input) settings.now fault) }
 {
     let texts = run_texts(folder, alloc, &settings.run, input)?;
-    let names = settings.always_files.as_slice();
-    let conditions = always_given(folder, alloc, settings.always.as_slice(), names)?;
+    let conditions = shown_conditions(folder, alloc, settings)?;
     let (text, script) = (texts.text.as_slice(), texts.script.as_slice());
     let report = show_report(rt, alloc, text, script, conditions.as_slice(), settings)?;
     Ok(report)

@@ -3,7 +3,7 @@ use Rattle.std.specs.Prelude.{IfOk}
 use Rattle.asm_syntax.specs.code.Views.{spec_of}
 use Rattle.asm_explore_texts.specs.code.CodedConditions.{terms_in}
 use Rattle.asm_random.specs.declared.random_result.RandomFinding.{RandomFinding}
-use Rattle.asm_explore_report.specs.Comments.{lines_of}
+use Rattle.asm_explore_texts.specs.Comments.{lines_of}
 use Rattle.asm_explore_random.specs.RandomReport.{RandomTells}
 use Rattle.asm_explore_random.proofs.random_report.words_of.Goals as goal
 

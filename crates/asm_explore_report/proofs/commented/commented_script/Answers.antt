@@ -4,7 +4,7 @@ use Rattle.asm_reader.specs.ScriptText.{IsScript}
 use Rattle.asm_explore_texts.specs.Comments.{lines_of}
 use Rattle.asm_explore_report.specs.Commented.{said_by}
 use Rattle.asm_explore_report.proofs.BetweenLines.{commented_says}
-use Rattle.asm_explore_texts.proofs.commented.commented_script.Goals as goal
+use Rattle.asm_explore_report.proofs.commented.commented_script.Goals as goal
 
 pub returns-in-Ok-longest-clause-says : goal.returns-in-Ok-longest-clause-says
 returns-in-Ok-longest-clause-says c steps apart =

@@ -8,7 +8,7 @@ use Rattle.asm_reader.specs.ScriptText.{IsScript}
 use Rattle.asm_explore.specs.WrittenScripts.{AreSteps, IsTextOf, IsTextRefusal, lines_said, lines_text, numbers_in}
 use Rattle.asm_explore_report.specs.Commented.{said_by}
 use Rattle.asm_explore_report.proofs.WholeLines.{written_all}
-use Rattle.asm_explore_texts.proofs.commented.lines_alone.Goals as goal
+use Rattle.asm_explore_report.proofs.commented.lines_alone.Goals as goal
 
 pub returns-clause-text : goal.returns-clause-text
 returns-clause-text c =

@@ -5,7 +5,7 @@ use Rattle.asm_explore_texts.specs.Comments.{comments, lines_of}
 use Rattle.asm_explore_report.specs.Commented.{entries_text, entry_text}
 use Rattle.asm_explore_report.specs.declared.commented.Entry.{Entry}
 use Rattle.asm_explore_report.proofs.WholeLines.{longer_already, refused_within}
-use Rattle.asm_explore_texts.proofs.commented.with_comments.Goals as goal
+use Rattle.asm_explore_report.proofs.commented.with_comments.Goals as goal
 
 pub returns-in_err-add_entry-clause-refused : goal.returns-in_err-add_entry-clause-refused
 returns-in_err-add_entry-clause-refused c =

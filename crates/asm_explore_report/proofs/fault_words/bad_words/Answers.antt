@@ -5,7 +5,7 @@ use Rattle.asm_state.specs.Signature.{state_of}
 use Rattle.asm_syntax.specs.code.Views.{spec_of}
 use Rattle.asm_check.specs.Shapes.{shape_of}
 use Rattle.asm_explore_texts.specs.code.CodedConditions.{terms_in}
-use Rattle.asm_explore_report.specs.Comments.{lines_of}
+use Rattle.asm_explore_texts.specs.Comments.{lines_of}
 use Rattle.asm_explore_report.proofs.WordsOfRuns.{Ends, deadlock_tells, end_tells, wrong_tells}
 use Rattle.asm_explore_report.proofs.fault_words.bad_words.Goals as goal
 

@@ -4,7 +4,7 @@ use Rattle.asm_state.specs.Signature.{Shape, initial_state, state_of}
 use Rattle.asm_syntax.specs.code.Views.{spec_of}
 use Rattle.asm_check.specs.Shapes.{shape_of}
 use Rattle.asm_explore_texts.specs.code.CodedConditions.{terms_in}
-use Rattle.asm_explore_report.specs.Comments.{lines_of}
+use Rattle.asm_explore_texts.specs.Comments.{lines_of}
 use Rattle.asm_explore_report.specs.FaultWords.{IsBroken}
 use Rattle.asm_explore_report.proofs.fault_words.first_words.Goals as goal
 

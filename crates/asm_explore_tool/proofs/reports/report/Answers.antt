@@ -28,3 +28,11 @@ returns-in-Choices-clause-explained g c =
 pub returns-in-Clash-clause-explained : goal.returns-in-Clash-clause-explained
 returns-in-Clash-clause-explained g c =
     rw c.in-Clash.is (IfErr-weaker c.report_of_clash.result _ _ (λ fault is. (makes_none _, is)) c.report_of_clash.ensures.explained)
+
+pub returns-in-Show-clause-report : goal.returns-in-Show-clause-report
+returns-in-Show-clause-report g c =
+    rw c.in-Show.is (IfOk-weaker c.report_of_show.result _ _ (λ report is. (makes_none _, is)) c.report_of_show.ensures.report)
+
+pub returns-in-Show-clause-explained : goal.returns-in-Show-clause-explained
+returns-in-Show-clause-explained g c =
+    rw c.in-Show.is (IfErr-weaker c.report_of_show.result _ _ (λ fault is. (makes_none _, is)) c.report_of_show.ensures.explained)

@@ -1,0 +1,83 @@
+-- Definition. What is printed of a run as a table.
+--     show_status end unmet     1 if the run that is shown ends by a fault; and else 6 if there are
+--                               unmet lines, or 0
+--     names_shown settings      the names that are to be shown
+--     IsScriptPart              the text of the script that the run needs, or a comment that says
+--                               that it is left out, where it can't be written
+--     IsShowText                comments: how the run ends, and why; a call of `asm` that makes it;
+--                               the table; the assignments by which it ends; and the lines of the
+--                               given script that name no choice. Behind them stands the script
+--     IsShown                   the run that settings ask for is shown so
+--     ExplainsShow              why there is no report: a text is refused; no location has a name
+--                               that is to be shown, nor the function of one; memory ran out; or the
+--                               run of texts that aren't refused is
+use Rattle.std.specs.Prelude.{◌≡◌, ◌⊎◌, All, Contains, ℕ, Bool, true, false, List, [], ◌∷◌, ◌++◌, map, codes, ⊤}
+use Rattle.asm_syntax.specs.SourceTree.{Spec, Term}
+use Rattle.asm_reader.specs.ScriptLines.{Script}
+use Rattle.asm_reader.specs.ScriptText.{IsScript}
+use Rattle.asm_meaning.specs.Declarations.{specification_of}
+use Rattle.asm_run.specs.Headline.{IsAccepted}
+use Rattle.asm_explore.specs.ChosenLines.{AreTooLong, IsChosenText, chosen_lines}
+use Rattle.asm_explore.specs.RunChoices.{AreChoices, lines_forward}
+use Rattle.asm_explore.specs.declared.outcomes.listed_outcome.Choice.{Choice}
+use Rattle.asm_explore_texts.specs.Comments.{comments}
+use Rattle.asm_explore_texts.specs.Conditions.{AreAskedOf, texts_of}
+use Rattle.asm_explore_texts.specs.RefusedTexts.{IsOneRefused}
+use Rattle.asm_explore_texts.specs.declared.conditions.Condition.{Condition}
+use Rattle.asm_explore_table.specs.Rows.{rows_of}
+use Rattle.asm_explore_table.specs.Tables.{IsTable, is_known}
+use Rattle.asm_explore_report.specs.Commands.{command}
+use Rattle.asm_explore_report.specs.Refusals.{IsRunRefused}
+use Rattle.asm_explore_report.specs.declared.report.Report.{Report}
+use Rattle.asm_explore_run.specs.ShownRun.{IsShownEnd, ShownEnd}
+use Rattle.asm_explore_run.specs.UnmetLines.{unmet_lines}
+use Rattle.asm_explore_words.specs.declared.fault.Fault.{Fault}
+use Rattle.asm_explore_words.specs.declared.fault.Fault.TheVariants as fault
+use Rattle.asm_explore_words.specs.declared.settings.ShowSettings.{ShowSettings}
+
+abbrev pub names_shown : ShowSettings → List (List ℕ)
+names_shown settings = map (λ name. name.now) settings.names.items
+
+abbrev pub show_status : (is_fault : Bool) → (unmet : List (List ℕ)) → ℕ
+show_status true unmet = 1
+show_status false [] = 0
+show_status false (line ∷ more) = 6
+
+module _ (tree : Spec) (turns : ℕ) (script : Script) where
+  abbrev pub IsScriptPart : (steps : ℕ) → List ℕ → Type 0
+  IsScriptPart steps part =
+      IsChosenText (specification_of tree) turns script steps part
+      ⊎ (AreTooLong (chosen_lines (specification_of tree) turns script steps) × (part ≡ comments (codes "left out: the script" ∷ [])))
+
+  pub record IsShowText (spec : List ℕ) (names : List (List ℕ)) (end : ShownEnd) (unmet : List (List ℕ)) (printed : List ℕ) : Type 0 where
+    pub table : List (List ℕ)
+    pub is_table : IsTable tree names (specification_of tree).initial (rows_of tree turns script end.steps) table
+    pub part : List ℕ
+    pub is_part : IsScriptPart end.steps part
+    pub is :
+        let behind = end.because ++ (command end.steps turns spec ∷ (table ++ (end.assignments ++ unmet))) in
+        printed ≡ comments (end.first ∷ behind) ++ part
+
+module _ (text script_text : List ℕ) (conditions : List Condition) (settings : ShowSettings) where
+  pub record IsShown (report : Report) : Type 0 where
+    pub tree : Spec
+    pub accepted : IsAccepted text tree
+    pub script : Script
+    pub spelled : IsScript script_text script
+    pub terms : List Term
+    pub asked : AreAskedOf tree (texts_of conditions) terms
+    pub known : All (λ name. is_known tree name ≡ true) (names_shown settings)
+    pub end : ShownEnd
+    pub is_end : IsShownEnd text tree terms settings.run.turns script settings.run.steps end
+    pub steps : List (List Choice)
+    pub choices : AreChoices tree settings.run.turns script end.steps steps
+    pub printed : IsShowText tree settings.run.turns script settings.run.spec.now (names_shown settings) end (unmet_lines script_text (lines_forward steps)) report.text.items
+    pub status : report.status ≡ show_status end.is_fault (unmet_lines script_text (lines_forward steps))
+
+  abbrev pub ExplainsShow : Fault → Type 0
+  ExplainsShow (fault.Text refused) = IsRunRefused text settings.run.spec.now script_text settings.run refused ⊎ ((s : Spec) × IsAccepted text s × IsOneRefused s conditions refused)
+  ExplainsShow (fault.Name name) = (s : Spec) × IsAccepted text s × Contains (names_shown settings) name.now × (is_known s name.now ≡ false)
+  ExplainsShow fault.Memory = ⊤
+  ExplainsShow fault.Unconfirmed = ((s : Spec) × IsAccepted text s) × ((script : Script) × IsScript script_text script)
+  ExplainsShow (fault.Graph name) = ⊥
+  ExplainsShow (fault.QuietScript name) = ⊥
