@@ -3,7 +3,7 @@
 --     spelled_in            what is found has a script
 --     whole_drawn, run_drawn, none_drawn    what is drawn, for each text
 --     explained_text        why it isn't
-use Rattle.std.proofs.Common.{◌≡◌, ◌∙◌, ◌∷◌, ◌++◌, [], ℕ, Bool, false, List, Option, None, Some, ap, arith, cc, inl, inr, length, refl, subst, sym}
+use Rattle.std.proofs.Common.{◌≡◌, ◌∷◌, ◌++◌, [], ℕ, Bool, List, Option, None, Some, ap, arith, inl, inr, length, refl, subst, suc, sym}
 use Rattle.std.specs.Prelude.{option_map}
 use Rattle.std.specs.String.{string_bytes}
 use Rattle.std.proofs.lemmas.List.{length-append}
@@ -28,7 +28,7 @@ use Rattle.asm_explore_all.specs.code.GraphFiles.{ExplainsWriting, IsRunOf}
 one_line : (before after : List (List ℕ)) (bytes : List ℕ) → [] ∷ [] ≡ before ++ bytes ∷ after → (before ≡ []) × (bytes ≡ [])
 one_line [] after bytes is = (refl, cc)
 one_line (b ∷ before) after bytes is =
-    let more : 1 ≡ 1 + length (before ++ bytes ∷ after) = ap length is in
+    let more : 1 ≡ suc (length (before ++ bytes ∷ after)) = ap length is in
     absurd (omega (arith, more, length-append before (bytes ∷ after)))
 
 empty_faultless : AreFaultless ([] ∷ [])
@@ -61,7 +61,7 @@ module _ (asked : AskedQuestion) where
   run_drawn (Some run) name text many is = inr (many, (text, is, refl, refl))
 
   pub none_drawn : (run : Option Drawn) (name : List ℕ) → HasTooMany asked → run ≡ None → IsDrawn asked run (Some name) (graph_note ∷ []) []
-  none_drawn run name many is = subst (λ r. IsDrawn asked r (Some name) (graph_note ∷ []) []) (sym is) (inr (many, refl, refl))
+  none_drawn run name many is = subst (λ r. IsDrawn asked r (Some name) (graph_note ∷ []) []) (sym is) (inr (many, (refl, refl)))
 
   pub explained_text : (run : Option Drawn) (name text : List ℕ) (lines : List (List ℕ)) (old new : Option (List MadeFile)) → IsDrawn asked run (Some name) lines ((name, text) ∷ []) → (why : Fault)
       → ExplainsWriting name text old new why → ExplainsDrawing asked run (Some name) old new why

@@ -79,7 +79,7 @@ fn drawn_run(finding: &Finding) -> Option<DrawnRun<'_>>
 /// The script of a run.
 fn script_of(alloc: Global, run: ShownRun<'_>) -> Result<Script, AllocError>
     requires { IsSpelled (shown run) }
-    ensures { IfOk result (λ script. IsScript run.script.now script) }
+    ensures { IfOk result (λ script. IsScript run.entry.script.now script) }
 {
     match read_script(alloc, run.script) {
         Ok(script) => Ok(script),
@@ -95,7 +95,7 @@ fn marks_of(
     run: Option<DrawnRun<'_>>,
 ) -> Result<EdgeMarks, AllocError>
     requires { AreSpelled (drawn_of run) }
-    ensures { IfOk result (λ marks. (path : List (ℕ × ℕ)) × IsRed (drawn_of run) graph.now.steps.items path × AreMarks path marks) }
+    ensures { IfOk result (λ marks. (path : List (ℕ × ℕ)) × IsRed (drawn_of run.entry) graph.now.steps.items path × AreMarks path marks) }
 {
     match run {
         Some(run) => {
@@ -117,7 +117,7 @@ fn text_of(
     requires whole { Each (λ (n : Node). length n.state ≡ count_of (shape_of (spec_of asked.now.checked.spec))) graph.now.nodes.items }
     requires paired { length graph.now.steps.items ≡ length graph.now.nodes.items }
     requires spelled { AreSpelled (drawn_of run) }
-    ensures { IfOk result (λ text. IsRedText (plain asked.now) (drawn_of run) graph.now (string_bytes text)) }
+    ensures { IfOk result (λ text. IsRedText (plain asked.now) (drawn_of run.entry) graph.now (string_bytes text)) }
 {
     let marks = marks_of(alloc, graph, run)?;
     let turns = asked.question.turns;
@@ -128,7 +128,7 @@ fn text_of(
 /// The text of the graph of a run alone.
 fn run_text(alloc: Global, asked: &CheckedQuestion, run: DrawnRun<'_>) -> Result<String, AllocError>
     requires { IsSpelled (drawn run).0 }
-    ensures { IfOk result (λ text. IsRunText (plain asked.now) (drawn run) (string_bytes text)) }
+    ensures { IfOk result (λ text. IsRunText (plain asked.now) (drawn run.entry) (string_bytes text)) }
 {
     let script = script_of(alloc, run.shown)?;
     let (checked, question) = (&asked.checked, &asked.question);
@@ -146,7 +146,7 @@ fn graph_text(
     run: Option<DrawnRun<'_>>,
 ) -> Result<GraphText, AllocError>
     requires { AreSpelled (drawn_of run) }
-    ensures { IfOk result (IsTextOf (plain asked.now) (drawn_of run)) }
+    ensures { IfOk result (IsTextOf (plain asked.now) (drawn_of run.entry)) }
 {
     let (checked, question) = (&asked.checked, &asked.question);
     match state_graph(alloc, checked, question, MAX_GRAPH_STATES) {
