@@ -13,7 +13,7 @@ returns-in_ok-from_str-in-TooMany c =
 
 pub returns-in_ok-from_str-in-RunAlone : goal.returns-in_ok-from_str-in-RunAlone
 returns-in_ok-from_str-in-RunAlone c =
-    let new = lines_of c.add_text-in-RunAlone.new.lines.items in
+    let new = lines_of c.add_text.new.lines.items in
     let old = lines_of c.args.lines.now.items in
-    subst (λ d. OnOk c.add_text-in-RunAlone.result (new ≡ old ++ graph_lines d)) (sym c.in-RunAlone.is)
-    (subst (λ (xs : List ℕ). OnOk c.add_text-in-RunAlone.result (new ≡ old ++ xs ∷ [])) c.in_ok-from_str-in-RunAlone.ensures.ok c.add_text-in-RunAlone.ensures)
+    subst (λ d. OnOk c.add_text.result (new ≡ old ++ graph_lines d)) (sym c.in-RunAlone.is)
+    (subst (λ (xs : List ℕ). OnOk c.add_text.result (new ≡ old ++ xs ∷ [])) c.in_ok-from_str-in-RunAlone.ensures.ok c.add_text.ensures)
