@@ -5,7 +5,7 @@
 --     behind_elements, no_elements    what stands behind them
 --     asked_more, asked_count      choices of which a label tells
 --     edges_more, all_more         the edges of one edge more, and of one step more
-use Rattle.std.proofs.Common.{◌≡◌, ◌∙◌, ℕ, zero, suc, ◌+◌, ◌<◌, ◌&&◌, Bool, false, cond, nat_eq, Option, Some, None, List, [], ◌∷◌, ◌++◌, length, map, min, take, get_or, codes, refl, sym, ap, subst, append_assoc, append-nil, arith}
+use Rattle.std.proofs.Common.{◌≡◌, ◌∙◌, ℕ, zero, suc, ◌+◌, ◌<◌, ◌&&◌, false, cond, nat_eq, Some, None, List, [], ◌∷◌, ◌++◌, length, map, min, take, get_or, codes, refl, sym, ap, append_assoc, append-nil, arith}
 use Rattle.std.specs.Cmp.Lexicographic.{pointwise}
 use Rattle.std.specs.List.{enumerate_from, join_by}
 use Rattle.std.proofs.lemmas.List.{length-map, length-take-le, map-append}

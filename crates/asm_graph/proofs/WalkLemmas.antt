@@ -8,7 +8,7 @@
 --     row_read, row_past          rows by their numbers
 --     mark_more                   one more in a row
 --     no_rows                     in rows without a number nothing is marked
-use Rattle.std.proofs.Common.{◌≡◌, ◌∙◌, ◌<◌, ◌≤◌, ℕ, zero, suc, ◌+◌, Bool, true, false, ◌&&◌, List, [], ◌∷◌, ◌++◌, length, map, Option, None, Some, Vec, Global, get_or, set, inl, inr, refl, sym, ap, arith}
+use Rattle.std.proofs.Common.{◌≡◌, ◌∙◌, ◌<◌, ◌≤◌, ℕ, zero, suc, Bool, true, false, ◌&&◌, List, [], ◌∷◌, ◌++◌, length, map, None, Some, Vec, Global, get_or, set, inl, inr, refl, sym, ap, arith}
 use Rattle.std.specs.Prelude.{◌||◌, ◌==◌, cond, nat_lt, slice_get, slice_index_or}
 use Rattle.std.specs.Prelude.{◌⊎◌}
 use Rattle.std.specs.List.{list_any, position, position_or_len}
@@ -17,7 +17,6 @@ use Rattle.std.proofs.lemmas.Bool.{cases_lt, ltb-true}
 use Rattle.asm_reader.specs.ScriptLines.{Script}
 use Rattle.asm_graph.specs.Paths.{edges_at, is_among, taken_edge, takes, walk}
 use Rattle.asm_graph.specs.declared.graph.Edge.{Edge}
-use Rattle.asm_graph.specs.declared.graph.EdgeEnd.{EdgeEnd}
 use Rattle.asm_graph.specs.declared.graph.EdgeEnd.TheVariants as target
 use Rattle.asm_graph.specs.declared.graph.StepFault.{StepFault}
 use Rattle.asm_graph.specs.declared.graph.Step.{Step}

@@ -21,7 +21,7 @@ use Rattle.asm_explore.specs.code.AskedPieces.{all_said}
 use Rattle.asm_explore.specs.declared.choices.choice_point.ChoicePoint.{ChoicePoint}
 use Rattle.asm_explore.specs.Search.{LeadsOn}
 use Rattle.asm_explore.specs.TakenChoices.{steps_from}
-use Rattle.asm_graph.specs.PathGraphs.{GoesAlong, IsEdgesOf, IsPathEdge, IsPathFrom, IsPathNode, step_behind}
+use Rattle.asm_graph.specs.PathGraphs.{GoesAlong, IsEdgesOf, IsPathFrom, IsPathNode, step_behind}
 use Rattle.asm_graph.specs.code.WaySoFar.{EndsAt, GoesOn, HasNodeMore, IsEndOf}
 use Rattle.asm_graph.specs.declared.graph.Edge.{Edge}
 use Rattle.asm_graph.specs.declared.graph.EdgeEnd.{EdgeEnd}

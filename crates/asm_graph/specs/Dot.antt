@@ -17,7 +17,6 @@
 --                          of a path red
 use Rattle.std.specs.Prelude.{◌≡◌, ℕ, suc, Bool, true, false, not, ◌&&◌, ◌||◌, ◌==◌, if◌then◌else◌, List, [], ◌∷◌, ◌++◌, codes, decimal, encode_utf8}
 use Rattle.std.specs.List.{flat_map, list_all, list_any}
-use Rattle.asm_state.specs.Signature.{Shape}
 use Rattle.asm_syntax.specs.SourceTree.{Spec}
 use Rattle.asm_check.specs.Shapes.{shape_of}
 use Rattle.asm_graph.specs.declared.arrow.Arrow.{Arrow}

@@ -1,5 +1,4 @@
-use Rattle.std.proofs.Common.{◌≡◌, codes, take}
-use Rattle.std.specs.List.{join_by}
+use Rattle.std.proofs.Common.{◌≡◌, take}
 use Rattle.asm_syntax.specs.code.Views.{spec_of}
 use Rattle.asm_explore.specs.code.AskedPieces.{all_said}
 use Rattle.asm_graph.specs.Arrows.{label_text}

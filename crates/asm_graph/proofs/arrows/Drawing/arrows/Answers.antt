@@ -1,15 +1,8 @@
-use Rattle.std.proofs.Common.{◌≡◌, ◌∙◌, length, ap, arith, subst, sym, take}
-use Rattle.std.specs.Prelude.{Some}
-use Rattle.std.proofs.lemmas.List.{take_all}
-use Rattle.std.proofs.lemmas.Option.{slice_get-get_or}
-use Rattle.asm_state.specs.Signature.{count_of}
+use Rattle.std.proofs.Common.{subst, take}
 use Rattle.asm_syntax.specs.code.Views.{spec_of}
-use Rattle.asm_step.specs.code.Steps.{shape_in}
 use Rattle.asm_graph.specs.Arrows.{IsArrow, all_edges}
 use Rattle.asm_graph.specs.Graphs.{Pairs}
-use Rattle.asm_graph.specs.declared.graph.Node.{Node}
 use Rattle.asm_graph.proofs.DrawnArrows.{all_more}
-use Rattle.asm_graph.proofs.Paired.{each_got}
 use Rattle.asm_graph.proofs.arrows.Drawing.arrows.Goals as goal
 
 pub loop-number-preserved : goal.loop-number-preserved
