@@ -267,6 +267,7 @@ pub(crate) fn arrows(
         resolved: &resolved,
         marks,
     };
-    let arrows = drawing.arrows(graph.nodes.as_slice(), graph.steps.as_slice())?;
-    Ok(arrows)
+    let arrows = drawing.arrows(graph.nodes.as_slice(), graph.steps.as_slice());
+    drop(code);
+    arrows
 }
