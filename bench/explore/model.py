@@ -200,8 +200,12 @@ class Step:
         for number, value in enumerate(self.specification.universes[universe].values):
             inner = bind(bound, name, value)
             if self.holds(test, inner, state):
-                all_of = united(all_of, self.rule(body, inner, state, (*path, number)))
+                all_of = united(all_of, self.for_element(name, value, body, inner, state, (*path, number)))
         return all_of
+
+    def for_element(self, name, value, body, bound, state, path):
+        """What a forall yields for one element."""
+        return self.rule(body, bound, state, path)
 
     def choose_rule(self, rule, bound, state, path):
         _, name, universe, test, body, none = rule

@@ -90,6 +90,8 @@ class Choice(NamedTuple):
     name: str
     candidates: list
     number: int
+    # The variable of each forall around it with its element, the outermost first.
+    elements: tuple
 
 
 class Assignment(NamedTuple):
@@ -119,11 +121,18 @@ class ToldStep(model.Step):
         self.script, self.step, self.choices, self.assigned = script, step, [], 0
         # The arguments of the target of the call whose body this is, which `result` stands for.
         self.given = []
+        self.elements = ()
 
     def taken(self, rule, path, candidates):
         number = self.script.number(self.step, path) % len(candidates)
-        self.choices.append(Choice(path, rule.offset, rule[1], candidates, number))
+        self.choices.append(Choice(path, rule.offset, rule[1], candidates, number, self.elements))
         return candidates[number]
+
+    def for_element(self, name, value, body, bound, state, path):
+        around, self.elements = self.elements, (*self.elements, (name, value))
+        result = super().for_element(name, value, body, bound, state, path)
+        self.elements = around
+        return result
 
     def arguments(self, target, bound, state):
         """Those of a target, outside the domain of its function too."""
@@ -159,25 +168,30 @@ class Position:
 
 
 class OneRun:
-    """A run of at most so many steps under a script."""
+    """A run of at most so many steps under a script, or up to the first state of which a function says that something is wrong."""
 
-    def __init__(self, text, script, steps=1000, turns=1000):
-        specification = reader.specification_of(text)
+    def __init__(self, text, script, steps=1000, turns=1000, wrong_in=lambda specification, state: None):
+        self.specification = specification = reader.specification_of(text)
         places, scale = list(specification.locations()), model.Scale(specification)
         self.position, self.script = Position(text), Script(script)
-        # The choices of each step; what is wrong, with the set and the location.
-        self.choices, self.fault, self.updates, self.place = [], None, {}, None
-        self.end = f"limit after step {steps}"
-        state = specification.initial()
-        for step in range(1, steps + 1):
+        # The states; the choices of each step; what is wrong, with the set and the location.
+        self.states, self.choices, self.fault, self.updates, self.place = [specification.initial()], [], None, {}, None
+        self.steps, self.end = steps, f"limit after step {steps}"
+        for step in range(1, steps + 2):
+            state = self.states[-1]
+            if wrong := wrong_in(specification, state):
+                self.fault, self.steps, self.end = wrong, step - 1, f"fault after step {step - 1}: {wrong}"
+                return
+            if step > steps:
+                return
             told = ToldStep(specification, turns, self.script, step)
             result = told.yields(state)
             self.choices += [(step, choice) for choice in told.choices]
             if wrong := words_of(places, scale, result):
                 self.fault, self.place = wrong
-                self.updates, self.end = result[1], f"fault in step {step}: {self.fault}"
+                self.updates, self.steps, self.end = result[1], step, f"fault in step {step}: {self.fault}"
                 return
-            state = model.fired(state, result[1])
+            self.states.append(model.fired(state, result[1]))
 
     # The answers
 

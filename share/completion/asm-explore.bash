@@ -4,10 +4,11 @@ _asm_explore_all_options=$'--steps\n--turns\n--always\n--always-file\n--deadlock
 _asm_explore_random_options=$'--steps\n--turns\n--always\n--always-file\n--deadlock-unless\n--outcomes\n--runs\n--seed\n--trace\n--progress\n--help\n--version'
 _asm_explore_choices_options=$'--steps\n--turns\n--script\n--help\n--version'
 _asm_explore_clash_options=$'--steps\n--turns\n--script\n--help\n--version'
-_asm_explore_plain=$'--steps\n--turns\n--always\n--deadlock-unless\n--within\n--states\n--outcomes\n--workers\n--runs\n--seed'
+_asm_explore_show_options=$'--steps\n--turns\n--script\n--always\n--always-file\n--only\n--width\n--help\n--version'
+_asm_explore_plain=$'--steps\n--turns\n--always\n--deadlock-unless\n--within\n--states\n--outcomes\n--workers\n--runs\n--seed\n--only\n--width'
 _asm_explore() {
     local current="${COMP_WORDS[COMP_CWORD]}" before="${COMP_WORDS[COMP_CWORD - 1]}" command="${COMP_WORDS[1]}"
-    local commands=$'all\nrandom\nchoices\nclash\nhelp' options=$'--help\n--version'
+    local commands=$'all\nrandom\nchoices\nclash\nshow\nhelp' options=$'--help\n--version'
     COMPREPLY=()
     # A name with spaces stays one word.
     local IFS=$'\n'
@@ -27,6 +28,7 @@ _asm_explore() {
         random) options=$_asm_explore_random_options ;;
         choices) options=$_asm_explore_choices_options ;;
         clash) options=$_asm_explore_clash_options ;;
+        show) options=$_asm_explore_show_options ;;
         help)
             COMPREPLY=($(compgen -W "$commands" -- "$current"))
             return

@@ -1,5 +1,5 @@
-"""The calls of `asm-explore choices` and `asm-explore clash` that the repository has answers of, beside the texts: the whole standard output of
-each. They are worked out by bench/explore/worked_runs."""
+"""The calls of `asm-explore choices`, `clash` and `show` that the repository has answers of, beside the texts: the whole standard output of each.
+They are worked out by bench/explore/worked_runs."""
 import argparse
 from typing import NamedTuple
 
@@ -19,7 +19,7 @@ class Run(NamedTuple):
 
     def answer(self):
         """The file of the answer."""
-        return EXAMPLES / f"{self.name}.{self.command}"
+        return EXAMPLES / f"{self.name}.{'table' if self.command == 'show' else self.command}"
 
     def call(self):
         """The words behind the program."""
@@ -27,11 +27,14 @@ class Run(NamedTuple):
 
 
 def asked_by(words):
-    """What the words ask for: a number of steps, one of turns, and the name of a script or none."""
+    """What the words ask for: a number of steps, one of turns, and the name of a script or none; and for `show` conditions, names and a width."""
     known = argparse.ArgumentParser()
     known.add_argument("--steps", type=int, default=1000)
     known.add_argument("--turns", type=int, default=1000)
     known.add_argument("--script")
+    known.add_argument("--always", action="append", default=[])
+    known.add_argument("--only", action="append", default=[])
+    known.add_argument("--width", type=int, default=100)
     return known.parse_args(words)
 
 
@@ -47,6 +50,10 @@ def choices(*given, **more):
 
 def clash(*given, **more):
     return of("clash", *given, **more)
+
+
+def show(*given, **more):
+    return of("show", *given, **more)
 
 
 RUNS = [
@@ -98,6 +105,43 @@ RUNS = [
     clash("guide/tally", script=False, status=1),
     clash("guide/shift", script=False, status=1),
     clash("guide/coin", "--steps", "0"),
+]
+
+
+TABLES = [
+    show("mutex_wrong", status=1),
+    show("mutex_wrong_safe", "--always", "isSafe", text="mutex_wrong", script="mutex_wrong", status=1),
+    show("mutex", "--steps", "7"),
+    show("alternating_wrong", status=1),
+    show("termination_wrong", status=1),
+    show("bakery_wrong", status=1),
+    show("raft_wrong", "--always", "isSafe", status=1),
+    show("window_wrong", status=1),
+    show("msi_wrong", "--always", "isSafe", status=1),
+    show("stack_aba_wrong", "--always", "isSafe", status=1),
+    show("commit", "--steps", "11"),
+    show("philosophers", "--steps", "10"),
+    show("philosophers_meals", "--only", "meals", "--only", "holder(2)", "--steps", "10", text="philosophers", script="philosophers"),
+    show("election", "--steps", "8", script=False),
+    show("gate", "--steps", "16"),
+    show("cash", "--steps", "9"),
+    show("boiler", "--steps", "6"),
+    show("draw", "--steps", "3"),
+    show("counter_always", "--always", "x < 3", text="counter", script=False, status=1),
+    show("turing", "--steps", "15", script=False),
+    show("queens", "--steps", "20", script=False),
+    show("paths", "--steps", "6", script=False),
+    show("guide/sum", "--steps", "1", script=False),
+    show("guide/coin", "--steps", "2"),
+    show("guide/coin_late", "--steps", "0", text="guide/coin", script="guide/coin", status=6),
+    show("guide/drinks", "--steps", "2"),
+    show("guide/ways", "--steps", "1"),
+    show("guide/toss_short", "--steps", "3", text="guide/toss", status=6),
+    show("guide/outside", script=False, status=1),
+    show("guide/dice", "--turns", "3", status=1),
+    show("guide/quorum", status=1),
+    show("guide/quorum_astray", text="guide/quorum", status=1),
+    show("guide/tally", script=False, status=1),
 ]
 
 

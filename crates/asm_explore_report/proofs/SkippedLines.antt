@@ -156,15 +156,24 @@ front_feeds bytes zero d low = refl
 front_feeds bytes (suc zero) d low = refl
 front_feeds bytes (suc (suc k)) d low = none_feeds bytes k d (omega (arith, low))
 
--- the line without its end, and a carriage return before that
+-- without its end, and without a carriage return before that
+abbrev front : List ℕ → List ℕ
+front [] = 35 ∷ []
+front (b ∷ line) = 35 ∷ 32 ∷ in_one_line (b ∷ line)
+
 abbrev bare : List ℕ → List ℕ
-bare line = strip_carriage_return (35 ∷ 32 ∷ in_one_line line)
+bare line = strip_carriage_return (front line)
+
+sign_feeds : All (λ b. (b == 10) ≡ false) (35 ∷ [])
+sign_feeds zero d low = refl
+sign_feeds (suc k) d low = absurd (omega (arith, low))
 
 comment_first : (line rest : List ℕ) → lines_of (comment line ++ rest) ≡ bare line ∷ lines_of rest
-comment_first line rest =
-    let front = 35 ∷ 32 ∷ in_one_line line in
-    let cut : comment line ++ rest ≡ front ++ 10 ∷ rest = ap (λ t. 35 ∷ 32 ∷ t) (append_assoc (in_one_line line) (10 ∷ []) rest) in
-    ap lines_of cut ∙ ap (map strip_carriage_return) (slice_split_at (λ b. b == 10) front 10 rest (front_feeds line) refl)
+comment_first [] rest = ap (map strip_carriage_return) (slice_split_at (λ b. b == 10) (35 ∷ []) 10 rest sign_feeds refl)
+comment_first (b ∷ line) rest =
+    let whole = 35 ∷ 32 ∷ in_one_line (b ∷ line) in
+    let cut : comment (b ∷ line) ++ rest ≡ whole ++ 10 ∷ rest = ap (λ t. 35 ∷ 32 ∷ t) (append_assoc (in_one_line (b ∷ line)) (10 ∷ []) rest) in
+    ap lines_of cut ∙ ap (map strip_carriage_return) (slice_split_at (λ b. b == 10) whole 10 rest (front_feeds (b ∷ line)) refl)
 
 skipped_either_way : (b : Bool) (bytes : List ℕ) → is_skipped (cond b (take (length (35 ∷ 32 ∷ bytes) - 1) (35 ∷ 32 ∷ bytes)) (35 ∷ 32 ∷ bytes)) ≡ true
 skipped_either_way true bytes =
@@ -173,9 +182,10 @@ skipped_either_way true bytes =
 skipped_either_way false bytes = refl
 
 bare_skipped : (line : List ℕ) → is_skipped (bare line) ≡ true
-bare_skipped line =
-    let front = 35 ∷ 32 ∷ in_one_line line in
-    skipped_either_way (slice_index front (length front - 1) == 13) (in_one_line line)
+bare_skipped [] = refl
+bare_skipped (b ∷ line) =
+    let whole = 35 ∷ 32 ∷ in_one_line (b ∷ line) in
+    skipped_either_way (slice_index whole (length whole - 1) == 13) (in_one_line (b ∷ line))
 
 pub comments_kept : (lines : List (List ℕ)) (rest : List ℕ) → kept (lines_of (comments lines ++ rest)) ≡ kept (lines_of rest)
 comments_kept [] rest = refl

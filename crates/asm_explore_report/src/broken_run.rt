@@ -11,6 +11,7 @@ ghost use Rattle.asm_explore_report.specs.BrokenRuns.{HoldBefore, IsFirstBroken}
 use crate::broken_condition::broken_in;
 use crate::fault_words::Subject;
 use crate::told::Told;
+use asm_check::Checked;
 use asm_eval::Choices;
 use asm_meaning::laws::run_laws;
 use asm_reader::Picks;
@@ -77,6 +78,33 @@ fn broken_by_run<P: Picks>(
     Ok(broken_state(steps, told))
 }
 
+/// The first state of the run of a specification in which a condition isn't true. The main rule is
+/// resolved once.
+fn broken_of<P: Picks>(
+    alloc: Global,
+    checked: &Checked,
+    turns: u32,
+    always: &Option<Term>,
+    script: &P,
+    steps: u32,
+) -> Result<Option<BrokenState>, AllocError>
+    ensures some { let s = spec_of checked.now.spec in (links : List (Op × Code)) → IsJoined links always.now →
+        IfOk result (λ found. IfSome found (λ broken. (broken.steps ≤ steps)
+        × IsFirstBroken s (terms_in links) turns (P.script script.now) broken.steps broken.told.words.items (lines_of broken.told.because.items))) }
+    ensures none { let s = spec_of checked.now.spec in (links : List (Op × Code)) → IsJoined links always.now →
+        IfOk result (λ found. IfNone found (HoldBefore s (terms_in links) turns (P.script script.now) (steps + 1))) }
+{
+    let code = resolve_main(alloc, checked)?;
+    let resolved = ResolvedSpecification {
+        checked,
+        code: &code,
+        turns,
+    };
+    let broken = broken_by_run(alloc, &resolved, always, script, steps);
+    drop(code);
+    broken
+}
+
 /// The first state of the run under a script, of at most `steps` steps, in which a condition isn't
 /// true. Without a condition no run is made.
 pub fn first_broken<P: Picks>(
@@ -94,14 +122,7 @@ pub fn first_broken<P: Picks>(
     if subject.always.is_none() {
         return Ok(None);
     }
-    let checked = subject.checked;
-    let code = resolve_main(alloc, checked)?;
-    let resolved = ResolvedSpecification {
-        checked,
-        code: &code,
-        turns: subject.turns,
-    };
-    let broken = broken_by_run(alloc, &resolved, subject.always, script, steps);
-    drop(code);
-    broken
+    let (checked, turns) = (subject.checked, subject.turns);
+    let broken = broken_of(alloc, checked, turns, subject.always, script, steps)?;
+    Ok(broken)
 }

@@ -30,15 +30,6 @@ pub fn of_fault(alloc: Global, fault: Fault, step: u64, words: &[u8]) -> Result<
     Ok(line)
 }
 
-/// The line of a state in which a condition isn't true, which so many steps lead to.
-pub fn of_broken(alloc: Global, steps: u32, words: &[u8]) -> Result<Vec<u8>, AllocError>
-    ensures { IfOk result (λ line. line.items ≡ fault_line Wrong steps words.now) }
-{
-    let mut line = format!(in alloc; "fault after step {steps}: ")?.into_bytes();
-    line.extend_from_slice(words)?;
-    Ok(line)
-}
-
 /// The line of a first state in which a condition isn't true.
 pub fn of_first(alloc: Global, words: &[u8]) -> Result<Vec<u8>, AllocError>
     ensures { IfOk result (λ line. line.items ≡ first_state_line words.now) }

@@ -14,8 +14,9 @@ ghost use Rattle.asm_explore_run.specs.code.ShownEnds.{end_said};
 use crate::run_end::ended;
 use crate::shown_assignments::assignments_shown;
 use asm_check::Checked;
+use asm_explore::Fault;
 use asm_explore_report::broken_run::BrokenState;
-use asm_explore_report::first_line::of_broken;
+use asm_explore_report::first_line::of_fault;
 use asm_explore_words::fault::Unshown;
 use asm_explore_words::settings::RunSettings;
 use asm_reader::{Script, one_script, one_tree};
@@ -65,7 +66,7 @@ pub(crate) fn broken_end(alloc: Global, broken: BrokenState) -> Result<ShownEnd,
         IfOk result (λ end. IsShownEnd text tree terms turns script steps (end_said end)) }
 {
     let BrokenState { steps, told } = broken;
-    let first = of_broken(alloc, steps, told.words.as_slice())?;
+    let first = of_fault(alloc, Fault::Wrong, u64::from(steps), told.words.as_slice())?;
     Ok(ShownEnd {
         first,
         because: told.because,

@@ -180,7 +180,7 @@ pub record IsTable (s : Spec) (names : List (List ℕ)) (first : State) (rows : 
   pub others : List Block
   pub of_all : let all = columns s names rows in flat_map numbers_in (head ∷ others) ≡ shown_columns names all
   pub chosen : is_some head.chosen ≡ chooses rows
-  pub unchosen : All (λ block. is_some block.chosen ≡ false) others
+  pub unchosen : list_any (λ block. is_some block.chosen) others ≡ false
   pub is :
       let all = columns s names rows in
       lines ≡ blocks_lines s width first rows head others ++ more_columns (length all - length (shown_columns names all))

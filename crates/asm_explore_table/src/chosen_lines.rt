@@ -8,6 +8,7 @@ ghost use Rattle.asm_explore_texts.specs.code.TextPlaces.{elements_said, place_s
 ghost use Rattle.asm_explore_table.specs.ChosenTexts.{chosen_lines as lines_of_choices, chosen_text as text_of_choice, elements_text as text_of_elements, given_text, intro, longest_line, mark as mark_before, name_text, pieces as pieces_behind, taken as taken_value, text_at as text_of_place, wrapped as wrapped_lines, wrapped_behind};
 ghost use Rattle.asm_explore_table.specs.code.ChoiceTexts.{text_said};
 
+use crate::line::push_comma;
 use asm_check::Checked;
 use asm_explore::ChoicePoint;
 use asm_explore_texts::rule_in_text::{PlaceInText, place_in_text};
@@ -52,9 +53,7 @@ fn elements_text(
 {
     let mut text = Vec::new(alloc);
     for k in 0..variables.len().min(elements.len()) {
-        if k > 0 {
-            text.extend_from_slice(b", ")?;
-        }
+        push_comma(&mut text, k)?;
         push_given(
             &mut text,
             checked,

@@ -12,7 +12,7 @@ ghost use Rattle.asm_explore_table.specs.Tables.{arguments_head as arguments_abo
 ghost use Rattle.asm_explore_table.specs.code.StepsMade.{IsWithin};
 
 use crate::block::{Block, Column};
-use crate::line::{align, place, push_blanks};
+use crate::line::{align, place, push_blanks, push_comma};
 use asm_check::Checked;
 use asm_run::locations::{push_function, push_value};
 use asm_state::location::Location;
@@ -34,9 +34,7 @@ fn push_values(head: &mut Vec<u8>, checked: &Checked, values: &[Word]) -> Result
     ensures { OnOk result (head.new.items ≡ head.old.items ++ joined_values (spec_of checked.now.spec) values.now) }
 {
     for k in 0..values.len() {
-        if k > 0 {
-            head.extend_from_slice(b", ")?;
-        }
+        push_comma(head, k)?;
         push_value(head, checked, values[k])?;
     }
     Ok(())

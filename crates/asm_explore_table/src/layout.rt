@@ -1,5 +1,5 @@
 //! Which columns stand beside each other, and where each begins.
-ghost use Rattle.std.specs.Prelude.{◌≡◌, ◌<◌, ◌++◌, ◌∷◌, [], All, is_some, IfOk, OnOk};
+ghost use Rattle.std.specs.Prelude.{◌≡◌, ◌<◌, ◌++◌, ◌∷◌, [], All, Bool, None, is_some, IfOk, OnOk};
 ghost use Rattle.std.specs.List.{flat_map};
 ghost use Rattle.asm_state.specs.Signature.{count_of};
 ghost use Rattle.asm_syntax.specs.code.Views.{spec_of};
@@ -164,11 +164,22 @@ fn first_block(alloc: Global, extent: &Extent, width: usize) -> Begun
     }
 }
 
-/// Ends a block, and begins the next one.
-fn end_block(blocks: &mut Vec<Block>, begun: &mut Begun, next: Begun) -> Result<(), AllocError>
-    ensures ended { OnOk result (blocks.new.items ≡ blocks.old.items ++ begun.old.block ∷ []) }
-    ensures begun { OnOk result (begun.new ≡ next) }
+/// Ends a block if it is full, and begins the next one.
+fn make_room(
+    blocks: &mut Vec<Block>,
+    begun: &mut Begun,
+    is_full: bool,
+    next: Begun,
+) -> Result<(), AllocError>
+    requires empty { next.block.columns.items ≡ [] }
+    requires chosen { next.block.chosen ≡ None }
+    ensures all { OnOk result (flat_map locations_of (blocks.new.items ++ begun.new.block ∷ []) ≡ flat_map locations_of (blocks.old.items ++ begun.old.block ∷ [])) }
+    ensures chosen { (chooses : Bool) → AreBlocks chooses (blocks.old.items ++ begun.old.block ∷ []) →
+        OnOk result (AreBlocks chooses (blocks.new.items ++ begun.new.block ∷ [])) }
 {
+    if !is_full {
+        return Ok(());
+    }
     let ended = std::mem::replace(begun, next);
     blocks.push(ended.into_block())?;
     Ok(())
@@ -192,9 +203,8 @@ pub(crate) fn blocks(
     let mut begun = first_block(alloc, extent, steps);
     for k in 0..columns.len() {
         let column = Unplaced::of(alloc, checked, extent, columns[k])?;
-        if begun.is_full_with(&column, width) {
-            end_block(&mut blocks, &mut begun, Begun::new(alloc, None, steps))?;
-        }
+        let is_full = begun.is_full_with(&column, width);
+        make_room(&mut blocks, &mut begun, is_full, Begun::new(alloc, None, steps))?;
         begun.add(&column)?;
     }
     blocks.push(begun.into_block())?;

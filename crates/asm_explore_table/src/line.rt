@@ -1,6 +1,6 @@
 //! Lines of a table: texts at the columns where they begin.
 ghost use Rattle.std.specs.Prelude.{◌≡◌, ◌++◌, OnOk};
-ghost use Rattle.asm_explore_table.specs.Lines.{aligned, blanks, placed};
+ghost use Rattle.asm_explore_table.specs.Lines.{aligned, blanks, comma, placed};
 
 use std::alloc::AllocError;
 
@@ -25,6 +25,16 @@ pub(crate) fn place(line: &mut Vec<u8>, start: usize, text: &[u8]) -> Result<(),
     let blanks = start.saturating_sub(line.len()).max(2);
     push_blanks(line, blanks)?;
     line.extend_from_slice(text)
+}
+
+/// Adds a comma, unless nothing comes before.
+pub(crate) fn push_comma(line: &mut Vec<u8>, before: usize) -> Result<(), AllocError>
+    ensures { OnOk result (line.new.items ≡ line.old.items ++ comma before) }
+{
+    if before == 0 {
+        return Ok(());
+    }
+    line.extend_from_slice(b", ")
 }
 
 /// Adds a text behind as many blanks as it takes for this width.

@@ -85,7 +85,7 @@ fn add_chosen(line: &mut Vec<u8>, block: &Block, text: &[u8]) -> Result<(), Allo
 
 /// A line with the number of a step, and with a line of what is chosen in it.
 fn begun(alloc: Global, frame: Frame<'_>, number: u64, chosen: &[u8]) -> Result<Vec<u8>, AllocError>
-    ensures { IfOk result (λ line. line.items ≡ line_begun (spec_of frame.checked.now.spec) frame.width frame.block.now number chosen.now) }
+    ensures { IfOk result (λ line. line.items ≡ line_begun (spec_of frame.entry.checked.now.spec) frame.entry.width frame.entry.block.now number chosen.now) }
 {
     let mut line = Vec::new(alloc);
     let digits = format!(in alloc; "{number}")?;
@@ -103,8 +103,8 @@ pub(crate) fn add_first_row(
 ) -> Result<(), AllocError>
     requires within { IsWithin (count_of (shape_of (spec_of frame.checked.now.spec))) frame.block.now }
     requires state { IsStateOf (shape_of (spec_of frame.checked.now.spec)) state.now }
-    ensures { let s = spec_of frame.checked.now.spec in
-        OnOk result (out.new.items ≡ out.old.items ++ comment (first_row s frame.width frame.block.now (state_of (shape_of s) state.now))) }
+    ensures { let s = spec_of frame.entry.checked.now.spec in
+        OnOk result (out.new.items ≡ out.old.items ++ comment (first_row s frame.entry.width frame.entry.block.now (state_of (shape_of s) state.now))) }
 {
     let mut line = begun(alloc, frame, 0, b"")?;
     let columns = frame.block.columns.as_slice();
@@ -146,8 +146,8 @@ fn add_further(
     frame: Frame<'_>,
     lines: &[Vec<u8>],
 ) -> Result<(), AllocError>
-    ensures { let s = spec_of frame.checked.now.spec in
-        OnOk result (out.new.items ≡ out.old.items ++ comments (further_lines s frame.width frame.block.now frame.block.now.chosen (lines_of lines.now))) }
+    ensures { let s = spec_of frame.entry.checked.now.spec in
+        OnOk result (out.new.items ≡ out.old.items ++ comments (further_lines s frame.entry.width frame.entry.block.now frame.entry.block.now.chosen (lines_of lines.now))) }
 {
     match frame.block.chosen {
         Some(start) => add_further_at(alloc, out, frame.width, start, lines),
@@ -166,8 +166,8 @@ fn add_step_cells(
     requires within { IsWithin (count_of (shape_of (spec_of frame.checked.now.spec))) frame.block.now }
     requires before { IsStateOf (shape_of (spec_of frame.checked.now.spec)) before.now }
     requires after { IfSome after.now (IsStateOf (shape_of (spec_of frame.checked.now.spec))) }
-    ensures { let s = spec_of frame.checked.now.spec in let shape = shape_of s in
-        OnOk result (line.new.items ≡ with_row s frame.width frame.block.now line.old.items (state_of shape before.now) (option_map (state_of shape) after.now)) }
+    ensures { let s = spec_of frame.entry.checked.now.spec in let shape = shape_of s in
+        OnOk result (line.new.items ≡ with_row s frame.entry.width frame.entry.block.now line.old.items (state_of shape before.now) (option_map (state_of shape) after.now)) }
 {
     match after {
         Some(after) => {
@@ -191,8 +191,8 @@ fn add_row_with(
     requires within { IsWithin (count_of (shape_of (spec_of frame.checked.now.spec))) frame.block.now }
     requires before { IsStateOf (shape_of (spec_of frame.checked.now.spec)) before.now }
     requires after { IfSome after.now (IsStateOf (shape_of (spec_of frame.checked.now.spec))) }
-    ensures { let s = spec_of frame.checked.now.spec in let shape = shape_of s in
-        OnOk result (out.new.items ≡ out.old.items ++ comments (lines_with s frame.width frame.block.now number (lines_of lines.now) (state_of shape before.now) (option_map (state_of shape) after.now))) }
+    ensures { let s = spec_of frame.entry.checked.now.spec in let shape = shape_of s in
+        OnOk result (out.new.items ≡ out.old.items ++ comments (lines_with s frame.entry.width frame.entry.block.now number (lines_of lines.now) (state_of shape before.now) (option_map (state_of shape) after.now))) }
 {
     match lines {
         [] => {
@@ -221,8 +221,8 @@ pub(crate) fn add_row(
     requires within { IsWithin (count_of (shape_of (spec_of frame.checked.now.spec))) frame.block.now }
     requires before { IsStateOf (shape_of (spec_of frame.checked.now.spec)) before.now }
     requires after { IfSome row.now.next (IsStateOf (shape_of (spec_of frame.checked.now.spec))) }
-    ensures { let s = spec_of frame.checked.now.spec in
-        OnOk result (out.new.items ≡ out.old.items ++ comments (row_lines s frame.width frame.block.now number (row_said (shape_of s) before.now row.now))) }
+    ensures { let s = spec_of frame.entry.checked.now.spec in
+        OnOk result (out.new.items ≡ out.old.items ++ comments (row_lines s frame.entry.width frame.entry.block.now number (row_said (shape_of s) before.now row.now))) }
 {
     let lines = chosen_lines(alloc, frame.checked, row.asked.as_slice())?;
     add_row_with(

@@ -11,6 +11,7 @@ ghost use Rattle.asm_explore_table.specs.code.StepsMade.{row_said, situation};
 use asm_eval::Choices;
 use asm_explore::{ChoicePoint, choices_of_step};
 use asm_reader::Picks;
+use asm_state::laws::test_laws;
 use asm_state::state::State;
 use asm_step::{ResolvedSpecification, Step, make_step};
 use std::alloc::{AllocError, Global};
@@ -38,6 +39,7 @@ fn next_of(made: Step) -> Option<State>
     ensures { (shape : Shape) (yields : Yielded) (old : List Value) → IsStateOf shape old → Comes shape yields old made →
         IfSome result (IsStateOf shape) × (option_map (state_of shape) result ≡ led (state_of shape old) yields) }
 {
+    test_laws();
     match made {
         Step::Next(next) => Some(next),
         Step::Faulty(_) => None,

@@ -45,7 +45,7 @@ struct TableRun<'r, P: Picks> {
 /// Adds the heads of a block.
 fn add_heads(alloc: Global, out: &mut Vec<u8>, frame: Frame<'_>) -> Result<(), AllocError>
     requires { IsWithin (count_of (shape_of (spec_of frame.checked.now.spec))) frame.block.now }
-    ensures { OnOk result (out.new.items ≡ out.old.items ++ comments (heads (spec_of frame.checked.now.spec) frame.width frame.block.now)) }
+    ensures { OnOk result (out.new.items ≡ out.old.items ++ comments (heads (spec_of frame.entry.checked.now.spec) frame.entry.width frame.entry.block.now)) }
 {
     let head = first_head(alloc, frame.checked, frame.width, frame.block)?;
     add_comment(out, head.as_slice())?;
@@ -60,16 +60,22 @@ fn add_rows<P: Picks>(
     alloc: Global,
     out: &mut Vec<u8>,
     run: &TableRun<'_, P>,
-    frame: Frame<'_>,
+    width: usize,
+    block: &Block,
 ) -> Result<(), AllocError>
     requires main { HasMainRule run.now.resolved }
-    requires checked { frame.checked.now ≡ run.now.resolved.checked.now }
-    requires within { IsWithin (count_of (shape_in run.now.resolved)) frame.block.now }
+    requires within { IsWithin (count_of (shape_in run.now.resolved)) block.now }
     ensures { let m = run.now.resolved in let s = spec_of m.checked.now.spec in
         OnOk result (out.new.items ≡ out.old.items
-        ++ comments (first_row s frame.width frame.block.now (specification_of s).initial ∷ rows_from s frame.width frame.block.now 1 (rows_of s m.turns (P.script run.now.script.now) run.now.steps))) }
+        ++ comments (first_row s width block.now (specification_of s).initial ∷ rows_from s width block.now 1 (rows_of s m.turns (P.script run.now.script.now) run.now.steps))) }
 {
-    let mut state = State::initial(alloc, run.resolved.checked.signature())?;
+    let checked = run.resolved.checked;
+    let frame = Frame {
+        checked,
+        width,
+        block,
+    };
+    let mut state = State::initial(alloc, checked.signature())?;
     add_first_row(alloc, out, frame, &state)?;
     for done in 0..run.steps {
         let number = u64::from(done) + 1;
@@ -102,7 +108,7 @@ fn add_block<P: Picks>(
         block,
     };
     add_heads(alloc, out, frame)?;
-    add_rows(alloc, out, run, frame)
+    add_rows(alloc, out, run, width, block)
 }
 
 /// Adds blocks of a table, each behind an empty line.

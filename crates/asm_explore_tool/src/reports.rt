@@ -11,7 +11,7 @@ ghost use Rattle.asm_explore_words.specs.WordsSaid.{reads_input_twice, reads_tas
 use crate::given_texts::{conditions, random_conditions, shown_conditions, text};
 use crate::no_answer::NoAnswer;
 use crate::progress_lines::ProgressLines;
-use crate::run_texts::run_texts;
+use crate::run_texts::{RunTexts, run_texts};
 use asm_explore::{Progress, Watch};
 use asm_explore_all::all_report::all_report;
 use asm_explore_all::files::NewFiles;
@@ -107,11 +107,11 @@ fn report_of_show<'w, R: Threads + Sync, F: Folder, I: Read + Drop>(
     ensures report { IfOk result (IsReportOfShow (F.contents folder.now) (I.remaining input) settings.now) }
     ensures explained { IfErr result (λ fault. IsUnread (IsReadForShow settings.now) fault ⊎ IsFaultOfShow (F.contents folder.now) (I.remaining input) settings.now fault) }
 {
-    let texts = run_texts(folder, alloc, &settings.run, input)?;
+    let RunTexts { text, script } = run_texts(folder, alloc, &settings.run, input)?;
     let conditions = shown_conditions(folder, alloc, settings)?;
-    let (text, script) = (texts.text.as_slice(), texts.script.as_slice());
-    let report = show_report(rt, alloc, text, script, conditions.as_slice(), settings)?;
-    Ok(report)
+    let (bytes, lines) = (text.as_slice(), script.as_slice());
+    let report = show_report(rt, alloc, bytes, lines, conditions.as_slice(), settings);
+    told(report, text)
 }
 
 /// The report for settings of `all`.

@@ -5,11 +5,13 @@
 --     names_said names                the texts of the names
 --     column_by                       a location is a column, if it is named, or changes where no
 --                                     names are given
+--     AreMarked chooses marks         the first mark says whether something is chosen, and no other does
 --     AreBlocks chooses blocks        the first block has a column of what is chosen just if something
 --                                     is, and no other has one
 --     AreWithin count blocks          each column is of a location with a number below this
 use Rattle.std.specs.Prelude.{◌≡◌, ◌<◌, ◌+◌, ◌-◌, ◌&&◌, ℕ, Bool, false, List, [], ◌∷◌, All, map, option_map, is_some}
 use Rattle.std.specs.Borrow.{Bor}
+use Rattle.std.specs.List.{list_any}
 use Rattle.asm_state.specs.Location.{Location}
 use Rattle.asm_state.specs.Signature.{Shape, state_of}
 use Rattle.asm_state.specs.Updates.{is_proper}
@@ -43,9 +45,12 @@ abbrev pub column_by : Spec → (names : List (List ℕ)) → (changes : Bool) �
 column_by s [] changes l = is_proper l && changes
 column_by s (name ∷ names) changes l = is_proper l && is_named s (name ∷ names) l
 
+abbrev pub AreMarked : (chooses : Bool) → List Bool → Type 0
+AreMarked chooses [] = ⊥
+AreMarked chooses (head ∷ others) = (head ≡ chooses) × (list_any (λ mark. mark) others ≡ false)
+
 abbrev pub AreBlocks : (chooses : Bool) → List Block → Type 0
-AreBlocks chooses [] = ⊥
-AreBlocks chooses (head ∷ others) = (is_some head.chosen ≡ chooses) × All (λ block. is_some block.chosen ≡ false) others
+AreBlocks chooses blocks = AreMarked chooses (map (λ block. is_some block.chosen) blocks)
 
 abbrev pub IsWithin : (count : ℕ) → Block → Type 0
 IsWithin count block = All (λ c. c.location < count) block.columns.items

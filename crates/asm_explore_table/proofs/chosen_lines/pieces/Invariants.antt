@@ -6,4 +6,4 @@ use Rattle.asm_explore_table.proofs.chosen_lines.pieces.Given as goal
 
 -- with the pieces of the others they are all
 abbrev pub invariant-loop-k : goal.invariant-loop-k
-invariant-loop-k l = lines_of l.pieces.items ++ pieces l.before.now (map text_said (drop l.k l.texts)) ≡ pieces [] (map text_said l.texts)
+invariant-loop-k l = lines_of l.pieces.items ++ pieces l.before (map text_said (drop l.k l.texts)) ≡ pieces [] (map text_said l.texts)

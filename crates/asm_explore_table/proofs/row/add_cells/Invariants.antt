@@ -1,4 +1,4 @@
-use Rattle.std.proofs.Common.{◌≡◌, ◌<◌, drop}
+use Rattle.std.proofs.Common.{◌≡◌, ℕ, List, drop}
 use Rattle.asm_state.specs.Signature.{state_of}
 use Rattle.asm_syntax.specs.code.Views.{spec_of}
 use Rattle.asm_check.specs.Shapes.{shape_of}
@@ -9,5 +9,5 @@ use Rattle.asm_explore_table.proofs.row.add_cells.Given as goal
 abbrev pub invariant-loop-k : goal.invariant-loop-k
 invariant-loop-k l =
     let s = spec_of l.checked.spec in
-    let text = cell s (state_of (shape_of s) l.before) (state_of (shape_of s) l.after) in
+    let text : ℕ → List ℕ = cell s (state_of (shape_of s) l.before) (state_of (shape_of s) l.after) in
     with_cells text l.line.items (drop l.k l.columns) ≡ with_cells text l.fn.line.items l.columns

@@ -1,6 +1,5 @@
-use Rattle.std.proofs.Common.{◌≡◌, ◌<◌, drop}
-use Rattle.std.specs.Prelude.{All}
-use Rattle.asm_state.specs.Signature.{count_of, state_of}
+use Rattle.std.proofs.Common.{◌≡◌, ℕ, List, drop}
+use Rattle.asm_state.specs.Signature.{state_of}
 use Rattle.asm_syntax.specs.code.Views.{spec_of}
 use Rattle.asm_check.specs.Shapes.{shape_of}
 use Rattle.asm_explore_table.specs.Tables.{numbered, shown_value, with_cells}
@@ -10,5 +9,5 @@ use Rattle.asm_explore_table.proofs.row.add_first_cells.Given as goal
 abbrev pub invariant-loop-k : goal.invariant-loop-k
 invariant-loop-k l =
     let s = spec_of l.checked.spec in
-    let text = λ n. shown_value s (state_of (shape_of s) l.state (numbered s n)) in
+    let text : ℕ → List ℕ = λ n. shown_value s (state_of (shape_of s) l.state (numbered s n)) in
     with_cells text l.line.items (drop l.k l.columns) ≡ with_cells text l.fn.line.items l.columns

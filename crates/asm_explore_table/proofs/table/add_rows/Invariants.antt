@@ -1,10 +1,10 @@
-use Rattle.std.proofs.Common.{◌≡◌, ◌+◌, ◌++◌, ◌∷◌}
+use Rattle.std.proofs.Common.{◌≡◌, ◌+◌, ◌++◌, ◌∷◌, ℕ, List}
 use Rattle.asm_state.specs.code.Contents.{IsStateOf}
 use Rattle.asm_syntax.specs.code.Views.{spec_of}
 use Rattle.asm_meaning.specs.Declarations.{specification_of}
 use Rattle.asm_step.specs.code.Steps.{shape_in}
 use Rattle.asm_explore_texts.specs.Comments.{comments}
-use Rattle.asm_explore_table.specs.Rows.{rows_of}
+use Rattle.asm_explore_table.specs.Rows.{Row, rows_of}
 use Rattle.asm_explore_table.specs.Tables.{first_row, rows_from}
 use Rattle.asm_explore_table.specs.code.StepsMade.{rest_rows}
 use Rattle.asm_explore_table.proofs.table.add_rows.Given as goal
@@ -15,9 +15,9 @@ invariant-loop-done g l =
     let m = l.run.resolved in
     let s = spec_of m.checked.now.spec in
     let script = g.P.Picks.script l.run.script.now in
-    let rows = rows_from s l.frame.width l.frame.block.now in
+    let rows : ℕ → List Row → List (List ℕ) = rows_from s l.width l.block in
     record {
       state : IsStateOf (shape_in m) l.state;
       rows : l.out.items ++ comments (rows (l.done + 1) (rest_rows m script l.run.steps l.done l.state))
-          ≡ l.fn.out.items ++ comments (first_row s l.frame.width l.frame.block.now (specification_of s).initial ∷ rows 1 (rows_of s m.turns script l.run.steps));
+          ≡ l.fn.out.items ++ comments (first_row s l.width l.block (specification_of s).initial ∷ rows 1 (rows_of s m.turns script l.run.steps));
     }
