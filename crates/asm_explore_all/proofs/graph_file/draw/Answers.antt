@@ -63,5 +63,5 @@ returns-in-TooMany-clause-drawn g c =
       [],
       makes_none _,
       subst (λ (file : Option (Bor (List ℕ))). IsDrawn asked run (option_map (λ n. n.now) file) (graph_note ∷ []) []) (sym c.in-Some.is)
-      (none_drawn asked run c.in-Some.name.now of.0 (sym c.drawn_run.ensures ∙ of.1)),
+          (none_drawn asked run c.in-Some.name.now of.0 (sym c.drawn_run.ensures ∙ of.1)),
     )
