@@ -1,11 +1,12 @@
 -- Free. What is shown of a run.
 --     found_of         what is found of the conditions of a run
---     of_ended         what follows of a state in which one isn't true, or if there is none
-use Rattle.std.proofs.Common.{◌≤◌, ◌+◌, ℕ, List, Option, None, Some}
+--     shown_text       the comments of a run that is shown, and its script
+use Rattle.std.proofs.Common.{◌≡◌, ◌∙◌, ◌≤◌, ◌+◌, ◌++◌, ◌∷◌, ℕ, List, Option, None, Some, ap, append_assoc, sym}
+use Rattle.std.proofs.lemmas.Grind.{flat_map-append}
 use Rattle.std.specs.Prelude.{IfNone, IfSome}
 use Rattle.asm_syntax.specs.SourceTree.{Spec, Term}
 use Rattle.asm_reader.specs.ScriptLines.{Script}
-use Rattle.asm_explore_texts.specs.Comments.{lines_of}
+use Rattle.asm_explore_texts.specs.Comments.{comment, comments, lines_of}
 use Rattle.asm_explore_report.specs.BrokenRuns.{HoldBefore, IsFirstBroken}
 use Rattle.asm_explore_report.specs.declared.broken_run.BrokenState.{BrokenState}
 use Rattle.asm_explore_run.specs.code.ShownEnds.{IsFoundOf}
@@ -15,3 +16,23 @@ pub found_of : (s : Spec) (asked : List (List ℕ)) (turns : ℕ) (script : Scri
     → IfNone found (HoldBefore s terms turns script (steps + 1)) → IsFoundOf s asked turns script steps terms found
 found_of s asked turns script steps terms None some none = none
 found_of s asked turns script steps terms (Some broken) some none = some
+
+module _ (first : List ℕ) (because : List (List ℕ)) (call : List ℕ) (table assignments unmet : List (List ℕ)) (part : List ℕ) where
+  abbrev behind : List (List ℕ)
+  behind = because ++ (call ∷ (table ++ (assignments ++ unmet)))
+
+  apart : comments (first ∷ behind) ≡ comments (first ∷ because) ++ (comment call ++ (comments table ++ (comments assignments ++ comments unmet)))
+  apart =
+      flat_map-append comment (first ∷ because) (call ∷ (table ++ (assignments ++ unmet)))
+      ∙ ap (λ t. comments (first ∷ because) ++ (comment call ++ t)) (flat_map-append comment table (assignments ++ unmet) ∙ ap (λ t. comments table ++ t) (flat_map-append comment assignments unmet))
+
+  together : (F C T A U : List ℕ) → (((F ++ C) ++ T) ++ A) ++ U ≡ F ++ (C ++ (T ++ (A ++ U)))
+  together F C T A U =
+      append_assoc ((F ++ C) ++ T) A U ∙ append_assoc (F ++ C) T (A ++ U) ∙ append_assoc F C (T ++ (A ++ U))
+
+  pub shown_text : (t0 t1 t2 t3 t4 t5 : List ℕ) → t0 ≡ comments (first ∷ because) → t1 ≡ t0 ++ comment call → t2 ≡ t1 ++ comments table → t3 ≡ t2 ++ comments assignments
+      → t4 ≡ t3 ++ comments unmet → t5 ≡ t4 ++ part → t5 ≡ comments (first ∷ behind) ++ part
+  shown_text t0 t1 t2 t3 t4 t5 a b c d e f =
+      f ∙ ap (λ t. t ++ part)
+      (e ∙ ap (λ t. t ++ comments unmet) (d ∙ ap (λ t. t ++ comments assignments) (c ∙ ap (λ t. t ++ comments table) (b ∙ ap (λ t. t ++ comment call) a)))
+      ∙ together (comments (first ∷ because)) (comment call) (comments table) (comments assignments) (comments unmet) ∙ sym apart)
