@@ -7,7 +7,7 @@
 --     ended_by_fault, ended_exhausted     a run that ends comes to no later state
 --     first_found        a state in which one isn't true is the first
 --     none_found         if there is none, they are true in all of a run
-use Rattle.std.proofs.Common.{◌≡◌, ◌∙◌, ◌+◌, ◌<◌, ◌≤◌, ◌⊎◌, ℕ, true, false, List, [], ◌∷◌, Option, None, inl, inr, ap, refl, sym, subst, arith, below_more, true≢false}
+use Rattle.std.proofs.Common.{◌≡◌, ◌∙◌, ◌+◌, ◌<◌, ◌≤◌, ◌⊎◌, ℕ, true, false, List, [], ◌∷◌, Option, None, inl, inr, refl, sym, subst, arith, below_more, true≢false}
 use Rattle.std.specs.Prelude.{IfNone, IfSome, Some, is_some}
 use Rattle.std.specs.List.{list_all}
 use Rattle.std.proofs.lemmas.Bool.{cases_lt}
@@ -77,9 +77,10 @@ module _ (s : Spec) (terms : List source.Term) (turns : ℕ) (script : Script) (
       → IfSome found (λ b. (b.steps ≤ steps) × IsFirstBroken s terms turns script b.steps b.told.words.items (lines_of b.told.because.items))
   first_found None told low is broken = tt
   first_found (Some b) told low is broken =
-      let at = subst (λ (o : Option Told). IfSome o (λ t. IsBroken s terms A t.words.items (lines_of t.because.items))) is.1 broken in
-      (subst (λ k. k ≤ steps) (sym is.0) low,
-      subst (λ k. IsFirstBroken s terms turns script k b.told.words.items (lines_of b.told.because.items)) (sym is.0) (record { state = A; after = here; before = before; broken = at }))
+      let at = subst (λ (o : Option Told). IfSome o (λ t. IsBroken s terms A t.words.items (lines_of t.because.items))) is.1 broken in (
+        subst (λ k. k ≤ steps) (sym is.0) low,
+        subst (λ k. IsFirstBroken s terms turns script k b.told.words.items (lines_of b.told.because.items)) (sym is.0) (record { state = A; after = here; before = before; broken = at }),
+      )
 
   pub none_found : (found : Option BrokenState) (told : Option Told) → n ≡ steps → IfNone found (told ≡ None)
       → IfNone told (list_all (λ t. is_true (value_in s t A)) terms ≡ true) → IfNone found (HoldBefore s terms turns script (steps + 1))

@@ -8,9 +8,9 @@ ghost use Rattle.asm_explore.specs.WrittenScripts.{AreSteps, IsTextOf, IsTextRef
 ghost use Rattle.asm_explore_texts.specs.Comments.{comments as comments_of, lines_of};
 ghost use Rattle.asm_explore_report.specs.Commented.{HasNoText, IsCommentedText, commented, entry_text, said_by, script_alone, without_script};
 
-use asm_explore_texts::comment::{add_comments, comments};
 use crate::printed::{Part, fits, left_out, text_behind_first};
 use asm_explore::{ScriptLine, WritingError, Zeros, script_text};
+use asm_explore_texts::comment::{add_comments, comments};
 use asm_reader::MAX_SCRIPT;
 use asm_syntax::InputError;
 use std::alloc::{AllocError, Global};

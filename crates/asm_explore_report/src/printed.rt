@@ -9,9 +9,9 @@ ghost use Rattle.asm_explore_texts.specs.Comments.{comments as comments_of, line
 ghost use Rattle.asm_explore_report.specs.Printed.{IsPrinted, IsReportText, behind_first as text_behind, left_out as lines_left, named, names_of, no_comments, no_script, no_trace, part_name};
 ghost use Rattle.asm_explore_report.specs.ShownRuns.{script_of as script_in, shown_of};
 
-use asm_explore_texts::comment::{add_comments, comments};
 use crate::shown_run::ShownRun;
 use crate::trace_lines::trace_lines;
+use asm_explore_texts::comment::{add_comments, comments};
 use asm_explore_words::fault::Unshown;
 use asm_reader::MAX_SCRIPT;
 use std::alloc::{AllocError, Global};

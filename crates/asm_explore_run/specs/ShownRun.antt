@@ -10,7 +10,7 @@
 --     IsBrokenEnd                it is shown up to the first state in which a condition isn't true
 --     IsWholeEnd                 there is no such state, and it is shown up to its end
 --     IsShownEnd                 one of these
-use Rattle.std.specs.Prelude.{◌≡◌, ◌⊎◌, ◌+◌, ◌-◌, ◌≤◌, ℕ, Bool, true, false, List, [], ◌∷◌, ◌++◌, length}
+use Rattle.std.specs.Prelude.{◌≡◌, ◌⊎◌, ◌+◌, ◌-◌, ◌≤◌, ℕ, Bool, true, false, List, [], ◌++◌, length}
 use Rattle.asm_explore.specs.declared.fault.Fault.TheVariants.{Wrong}
 use Rattle.asm_syntax.specs.SourceTree.{Spec, Term}
 use Rattle.asm_reader.specs.ScriptLines.{Script}

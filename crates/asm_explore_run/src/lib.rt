@@ -11,6 +11,6 @@ mod line_keys;
 mod run_end;
 pub mod show_report;
 mod show_text;
-mod shown_end;
 mod shown_assignments;
+mod shown_end;
 mod unmet_lines;

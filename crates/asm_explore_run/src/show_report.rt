@@ -127,16 +127,7 @@ fn report_of<'w, R: Threads + Sync>(
     }
     let run = &settings.run;
     let broken = broken_of(alloc, checked, &script, conditions, run)?;
-    let end = shown_end(
-        rt,
-        alloc,
-        text,
-        checked,
-        script_text,
-        &script,
-        run,
-        broken,
-    )?;
+    let end = shown_end(rt, alloc, text, checked, script_text, &script, run, broken)?;
     let report = report_of_end(alloc, checked, script_text, &script, settings, &end)?;
     Ok(report)
 }
@@ -155,15 +146,7 @@ pub fn show_report<'w, R: Threads + Sync>(
     ensures explained { IfErr result (ExplainsShow text.now script_text.now conditions.now settings.now) }
 {
     let checked = checked(alloc, text, settings.run.spec)?;
-    let report = report_of(
-        rt,
-        alloc,
-        text,
-        &checked,
-        script_text,
-        conditions,
-        settings,
-    );
+    let report = report_of(rt, alloc, text, &checked, script_text, conditions, settings);
     drop(checked);
     report
 }

@@ -14,7 +14,7 @@
 --     IsTable                  these lines are the table of a run: blocks of columns beside each
 --                              other, with an empty line between each two. Which columns stand beside
 --                              each other is free, and where they begin
-use Rattle.std.specs.Prelude.{◌≡◌, ℕ, zero, suc, ◌-◌, Bool, true, false, cond, ◌&&◌, ◌||◌, not, is_some, nat_eq, List, [], ◌∷◌, ◌++◌, map, filter, length, take, All, Option, Some, None, codes, decimal}
+use Rattle.std.specs.Prelude.{◌≡◌, ℕ, zero, suc, ◌-◌, Bool, false, cond, ◌&&◌, ◌||◌, is_some, nat_eq, List, [], ◌∷◌, ◌++◌, map, filter, length, take, Option, Some, None, codes, decimal}
 use Rattle.std.specs.List.{flat_map, join_by, list_any, range_with_len}
 use Rattle.std.specs.Str.{bytes_eq}
 use Rattle.asm_state.specs.declared.value.Value.{Value}
