@@ -73,7 +73,10 @@ fn message<W: Write>(fault: &NoAnswer<'_>, out: &mut W) -> fmt::Result {
             writeln!(out, "asm-explore: {name}: the script can't be written")
         }
         NoAnswer::Name(name) => {
-            writeln!(out, "asm-explore: --only {name}: no location is named so, nor its function")
+            writeln!(
+                out,
+                "asm-explore: --only {name}: no location is named so, nor its function"
+            )
         }
         NoAnswer::Unconfirmed => {
             out.write_str("asm-explore: an error of this program: the script leads to no fault\n")
