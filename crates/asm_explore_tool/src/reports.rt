@@ -107,9 +107,11 @@ fn report_of_show<'w, R: Threads + Sync, F: Folder, I: Read + Drop>(
     ensures report { IfOk result (IsReportOfShow (F.contents folder.now) (I.remaining input) settings.now) }
     ensures explained { IfErr result (λ fault. IsUnread (IsReadForShow settings.now) fault ⊎ IsFaultOfShow (F.contents folder.now) (I.remaining input) settings.now fault) }
 {
-    let RunTexts { text, script } = run_texts(folder, alloc, &settings.run, input)?;
+    let texts = run_texts(folder, alloc, &settings.run, input)?;
+    let RunTexts { text, script } = texts;
     let conditions = shown_conditions(folder, alloc, settings)?;
-    let (bytes, lines) = (text.as_slice(), script.as_slice());
+    let bytes = text.as_slice();
+    let lines = script.as_slice();
     let report = show_report(rt, alloc, bytes, lines, conditions.as_slice(), settings);
     told(report, text)
 }
