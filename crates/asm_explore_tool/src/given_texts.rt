@@ -175,7 +175,7 @@ pub(crate) fn shown_conditions<'w, F: Folder>(
     ensures given { IfOk result (λ all. AreShownGiven (F.contents folder.now) settings.now all.items) }
     ensures unread { IfErr result (IsUnread (IsAmongFiles settings.now.always_files.items)) }
 {
-    let names = settings.always_files.as_slice();
-    let always = always_given(folder, alloc, settings.always.as_slice(), names)?;
+    let files = settings.always_files.as_slice();
+    let always = always_given(folder, alloc, settings.always.as_slice(), files)?;
     Ok(always)
 }

@@ -11,8 +11,8 @@ returns-clause-given g c =
     let always = c.in_ok-always.always.items in
     let all = texts_of always in
     record {
-      always = subst (λ names. AreAlwaysGiven contents (texts settings.always.items) (texts names) all) c.as_slice-names.ensures.value
-          (subst (λ words. AreAlwaysGiven contents (texts words) (texts c.as_slice-names.result.now) all) c.as_slice.ensures.value c.in_ok-always.ensures.given);
-      sources = subst (λ names. sources_of always ≡ word_sources (length settings.always.items) ++ file_sources names) c.as_slice-names.ensures.value
-          (subst (λ words. sources_of always ≡ word_sources (length words) ++ file_sources c.as_slice-names.result.now) c.as_slice.ensures.value c.in_ok-always.ensures.sources);
+      always = subst (λ names. AreAlwaysGiven contents (texts settings.always.items) (texts names) all) c.as_slice-files.ensures.value
+          (subst (λ words. AreAlwaysGiven contents (texts words) (texts c.as_slice-files.result.now) all) c.as_slice.ensures.value c.in_ok-always.ensures.given);
+      sources = subst (λ names. sources_of always ≡ word_sources (length settings.always.items) ++ file_sources names) c.as_slice-files.ensures.value
+          (subst (λ words. sources_of always ≡ word_sources (length words) ++ file_sources c.as_slice-files.result.now) c.as_slice.ensures.value c.in_ok-always.ensures.sources);
     }
