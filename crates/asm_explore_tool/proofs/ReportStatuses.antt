@@ -1,7 +1,7 @@
 -- Free. No report has the status of a fault.
 --     of_report        the status of a report
 --     of_answer        of help or the version, too
-use Rattle.std.proofs.Common.{◌≡◌, ℕ, List, [], ◌∷◌, Option, inl, inr, arith, subst}
+use Rattle.std.proofs.Common.{◌≡◌, ℕ, Bool, true, false, List, [], ◌∷◌, Option, inl, inr, arith, subst}
 use Rattle.clap.specs.Walk.{Text}
 use Rattle.asm_meaning.specs.Run.{AtExhausted, AtFault, AtLimit, End}
 use Rattle.asm_explore.specs.declared.exploration_result.Finding.{Finding}
@@ -12,6 +12,7 @@ use Rattle.asm_explore_all.specs.AllReport as all
 use Rattle.asm_explore_all.specs.MadeFiles.{MadeFile}
 use Rattle.asm_explore_random.specs.RandomReport.{random_status}
 use Rattle.asm_explore_run.specs.RunReport.{choices_status, run_asked, status_of_end}
+use Rattle.asm_explore_run.specs.ShowReport.{show_status}
 use Rattle.asm_explore_report.specs.declared.report.Report.{Report}
 use Rattle.asm_explore_words.specs.declared.settings.Task.{Task}
 use Rattle.asm_explore_words.specs.declared.settings.Task.TheVariants as task
@@ -48,6 +49,11 @@ of_clash AtLimit f = omega (arith, f.0)
 of_clash (AtExhausted step q) f = omega (arith, f.0)
 of_clash (AtFault step U) f = omega (arith, f.0)
 
+of_shown : (is_fault : Bool) (unmet : List (List ℕ)) → IsOfFault (show_status is_fault unmet) → ⊥
+of_shown true unmet f = omega (arith, f.0)
+of_shown false [] f = omega (arith, f.0)
+of_shown false (line ∷ more) f = omega (arith, f.1)
+
 module _ (contents : Text → Option (List ℕ)) (input : Option (List ℕ)) (before after : Option (List MadeFile)) where
   pub of_report : (asked : Task) (report : Report) → IsReportOf contents input before after asked report → IsOfFault report.status → ⊥
   of_report (task.All settings) report h =
@@ -59,6 +65,8 @@ module _ (contents : Text → Option (List ℕ)) (input : Option (List ℕ)) (be
   of_report (task.Clash settings) report h =
       let is = h.1.reported in
       let end = (run_asked is.tree settings is.script).end in apart report.status (status_of_end end) is.status (of_clash end)
+  of_report (task.Show settings) report h =
+      let is = h.1.reported in apart report.status _ is.status (of_shown is.end.is_fault _)
 
   pub of_answer : (IsWritten : List ℕ → Type 0) (words : List Text) (status : ℕ) → IsAnswer contents input IsWritten before after words status → IsOfFault status → ⊥
   of_answer IsWritten words status (inl output) = apart status output.report.status output.status_is (of_report output.task output.report output.reported)
