@@ -6,8 +6,8 @@ HEAD = re.compile(r'digraph "([A-Za-z_][A-Za-z0-9_]*)" \{')
 QUOTED = r'((?:[^"\\\n]|\\["\\n])*)'
 NODE = re.compile(rf'  s(\d+) \[label="{QUOTED}"(, peripheries=2)?(, color=red, fontcolor=red)?(, style=filled, fillcolor=lightgrey|, style=dashed)?\];')
 FAULT = re.compile(r"  (clash|outside|exhausted) \[shape=octagon, color=red, fontcolor=red\];")
-EDGE = re.compile(rf'  s(\d+) -> (?:s(\d+)|(clash|outside|exhausted)) \[label="{QUOTED}"\];')
-CHOICE = re.compile(r"(?:-|\d+(?:\.\d+)*) \d+")
+EDGE = re.compile(rf'  s(\d+) -> (?:s(\d+)|(clash|outside|exhausted)) \[label="{QUOTED}"(, color=red, fontcolor=red)?\];')
+CHOICE = re.compile(r"([A-Za-z_]\w* = -?\w+(, [A-Za-z_]\w* = -?\w+)*: )?[A-Za-z_]\w* = -?\w+")
 CONTENT = re.compile(r"[A-Za-z_]\w*(?:\((?:-?\w+, )*-?\w+\))? = -?\w+")
 
 # So many locations of a state are shown.
@@ -28,8 +28,9 @@ class Edge(NamedTuple):
     start: int
     # The number of a node, or the name of a fault.
     end: object
-    # Each a path and a number, as a script writes them.
+    # Each a variable and the candidate that it takes, perhaps behind the elements of the foralls around it.
     choices: list
+    is_red: bool
 
 
 class Graph(NamedTuple):
@@ -60,7 +61,7 @@ def edge_of(found):
     for choice in choices:
         if not CHOICE.fullmatch(choice):
             raise ValueError(f"choice {choice!r}")
-    return Edge(int(found[1]), found[3] or int(found[2]), choices)
+    return Edge(int(found[1]), found[3] or int(found[2]), choices, bool(found[5]))
 
 
 def in_order(lines, form, kind):
@@ -92,6 +93,20 @@ def parsed(text):
     if [edge.start for edge in edges] != sorted(edge.start for edge in edges):
         raise ValueError("the order of edges")
     return graph
+
+
+def red_run(graph):
+    """The edges that are red, as a run takes them from the first node on; an error if it doesn't take them all."""
+    red = {edge.start: edge for edge in graph.edges if edge.is_red}
+    if len(red) != sum(edge.is_red for edge in graph.edges):
+        raise ValueError("two red edges from one node")
+    run, node = [], 0
+    while node in red:
+        run.append(red.pop(node))
+        node = run[-1].end
+    if red:
+        raise ValueError(f"{len(red)} red edges beside the run")
+    return run
 
 
 def widest(graph):

@@ -1,3 +1,4 @@
 pub mod GrowingFiles
 mod LeftFiles
+mod DrawnFiles
 mod PlainQuestions

@@ -8,30 +8,16 @@
 --     IsCrowd text finding lines      of a step with too many outcomes, at which path there are how
 --                                     many beside how many others, and maybe line and column of a name
 --                                     of the text: of which one is left free
---     IsGraphText asked text          the text for Graphviz of the graph of the states
---     IsDrawn asked file lines made   if a graph is asked for by the name of a file, this file is
---                                     made and has its text, and nothing is said; or it has more
---                                     than 2,000 states, which is said, and no file is made
---     ExplainsDrawing asked file old new fault
---                                     why the graph isn't drawn: memory ran out, and no file is made;
---                                     or this file can't be written
 --     ExplainsScript file run old new fault    why a script isn't written to this file: it can't be
 --     AreFacts                        all of them, in order
 use Rattle.std.specs.Prelude.{◌≡◌, ◌⊎◌, ℕ, List, [], ◌∷◌, ◌++◌, length, Option, Some, None, option_map, codes, decimal}
 use Rattle.std.specs.String.{string_bytes}
-use Rattle.asm_check.specs.Shapes.{shape_of}
-use Rattle.asm_meaning.specs.Declarations.{specification_of}
-use Rattle.asm_explore.specs.Conditions.{condition_holds}
-use Rattle.asm_explore.specs.TooManyOutcomes.{IsCrowded}
 use Rattle.asm_explore.specs.declared.exploration_result.ExplorationResult.{ExplorationResult}
 use Rattle.asm_explore.specs.declared.exploration_result.Finding.{Finding}
 use Rattle.asm_explore.specs.declared.exploration_result.Finding.TheVariants as finding
 use Rattle.asm_explore.specs.declared.exploration_result.QuietRun.{QuietRun}
 use Rattle.asm_explore.specs.declared.outcomes.outcomes_error.RuleOverLimit.{RuleOverLimit}
 use Rattle.asm_run.specs.Trace.{path_text}
-use Rattle.asm_graph.specs.Dot.{dot_of}
-use Rattle.asm_graph.specs.Graphs.{AreTooMany, IsGraph}
-use Rattle.asm_graph.specs.declared.graph.Graph.{Graph}
 use Rattle.asm_explore_texts.specs.Conditions.{text_of, texts_of}
 use Rattle.asm_explore_texts.specs.Positions.{MayBePosition}
 use Rattle.asm_explore_texts.specs.declared.conditions.Conditions.{Conditions}
@@ -41,8 +27,7 @@ use Rattle.asm_explore_words.specs.declared.settings.Settings.{Settings}
 use Rattle.asm_explore_report.specs.Commands.{command, file_word}
 use Rattle.asm_explore_report.specs.Facts.{always_lines, condition_line, deadlock_words, looked_for}
 use Rattle.asm_explore_report.specs.ShownRuns.{Shown, first_state, shown_bad}
-use Rattle.asm_explore_all.specs.MadeFiles.{MadeFile, Makes, StopsAt}
-use Rattle.asm_explore_all.specs.AskedQuestions.{AskedQuestion}
+use Rattle.asm_explore_all.specs.MadeFiles.{MadeFile, StopsAt}
 
 -- ---- conditions
 
@@ -115,37 +100,7 @@ abbrev pub command_lines : (turns : ℕ) → (name : List ℕ) → Option Shown 
 command_lines turns name None = []
 command_lines turns name (Some run) = command run.1 turns name ∷ []
 
--- ---- the graph of states
-
-abbrev pub graph_note : List ℕ
-graph_note = codes "no graph is written: more than 2000 states"
-
-module _ (asked : AskedQuestion) where
-  -- the text of the graph, which has at most 2,000 states
-  abbrev pub IsGraphText : List ℕ → Type 0
-  IsGraphText text =
-      (graph : Graph)
-      × IsGraph (shape_of asked.spec) (specification_of asked.spec) asked.turns (condition_holds asked.spec asked.within) (IsCrowded (specification_of asked.spec) asked.turns asked.outcomes) asked.steps 2000
-      (condition_holds asked.spec asked.always) (condition_holds asked.spec asked.when_quiet) graph
-      × (text ≡ dot_of asked.spec graph)
-
-  abbrev pub HasTooMany : Type 0
-  HasTooMany = AreTooMany (specification_of asked.spec) asked.turns (condition_holds asked.spec asked.within) asked.steps 2000
-
-  -- it is asked for by the name of a file
-  abbrev pub IsDrawn : (file : Option (List ℕ)) → (lines : List (List ℕ)) → (made : List MadeFile) → Type 0
-  IsDrawn None lines made = (lines ≡ []) × (made ≡ [])
-  IsDrawn (Some name) lines made =
-      ((text : List ℕ) × IsGraphText text × (lines ≡ []) × (made ≡ (name, text) ∷ [])) ⊎ (HasTooMany × (lines ≡ graph_note ∷ []) × (made ≡ []))
-
-  abbrev pub ExplainsDrawing : (file : Option (List ℕ)) → (old new : Option (List MadeFile)) → Fault → Type 0
-  ExplainsDrawing file old new fault.Memory = Makes old new []
-  ExplainsDrawing file old new (fault.Graph name) =
-      (file ≡ Some name.now) × ((lines : List (List ℕ)) × (drawn : List MadeFile) × IsDrawn file lines drawn × StopsAt old new name.now drawn)
-  ExplainsDrawing file old new (fault.Text refused) = ⊥
-  ExplainsDrawing file old new (fault.QuietScript name) = ⊥
-  ExplainsDrawing file old new (fault.Name name) = ⊥
-  ExplainsDrawing file old new fault.Unconfirmed = ⊥
+-- ---- the script to the first quiet state
 
 abbrev pub ExplainsScript : (file : Option (List ℕ)) → Option QuietRun → (old new : Option (List MadeFile)) → Fault → Type 0
 ExplainsScript file run old new (fault.QuietScript name) = (file ≡ Some name.now) × StopsAt old new name.now (quiet_files file run)

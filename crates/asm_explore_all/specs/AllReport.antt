@@ -31,8 +31,9 @@ use Rattle.asm_explore_report.specs.FaultWords.{BadTells, IsBroken, unwritten_wo
 use Rattle.asm_explore_report.specs.Printed.{IsPrinted}
 use Rattle.asm_explore_report.specs.Refusals.{IsQuestionRefused}
 use Rattle.asm_explore_report.specs.declared.report.Report.{Report}
-use Rattle.asm_explore_all.specs.AllFacts.{AreFacts, IsDrawn, quiet_files, shown_in}
+use Rattle.asm_explore_all.specs.AllFacts.{AreFacts, quiet_files, shown_in}
 use Rattle.asm_explore_all.specs.AskedQuestions.{AskedQuestion, IsExplored}
+use Rattle.asm_explore_all.specs.DrawnGraphs.{IsDrawn, drawn_in}
 use Rattle.asm_explore_all.specs.FindingLine.{first_line}
 use Rattle.asm_explore_all.specs.MadeFiles.{MadeFile, Makes, MakesFirst, StopsAt}
 
@@ -71,7 +72,7 @@ module _ (text : List ℕ) (conditions : Conditions) (settings : Settings) where
     -- what is said of the graph, and its file
     pub graph : List (List ℕ)
     pub drawn : List MadeFile
-    pub is_drawn : IsDrawn explored.asked (option_map (λ name. name.now) settings.dot) graph drawn
+    pub is_drawn : IsDrawn explored.asked (drawn_in answer.finding) (option_map (λ name. name.now) settings.dot) graph drawn
     pub are : files ≡ drawn ++ quiet_files (option_map (λ name. name.now) settings.quiet) answer.first_quiet
 
   pub record IsReported (report : Report) (files : List MadeFile) : Type 0 where

@@ -137,7 +137,7 @@ fn reported<'w, R: Threads + Sync, F: NewFiles, W: Watch<Progress>>(
     let workers = workers_of(settings);
     let (checked, question) = (&asked.checked, &asked.question);
     let answered = explore_all_by(rt, alloc, checked, question, workers, watch)?;
-    let drawing = draw(files, alloc, asked, settings.dot)?;
+    let drawing = draw(files, alloc, asked, settings.dot, &answered.finding)?;
     write_script(files, &answered.first_quiet, settings.quiet)?;
     let text = printed_of(
         rt, alloc, text, asked, conditions, settings, &answered, drawing,

@@ -214,7 +214,7 @@ fn add_command(
     }
 }
 
-/// Adds a line if the graph of states isn't written.
+/// Adds a line if not all of the graph of states is written.
 fn add_graph_note(
     alloc: Global,
     lines: &mut Vec<Vec<u8>>,
@@ -224,6 +224,10 @@ fn add_graph_note(
 {
     match drawing {
         GraphFile::NotAsked | GraphFile::Written => Ok(()),
+        GraphFile::RunAlone => add_text(
+            lines,
+            String::from_str(alloc, "only this run is drawn: more than 2000 states")?,
+        ),
         GraphFile::TooMany => add_text(
             lines,
             String::from_str(alloc, "no graph is written: more than 2000 states")?,

@@ -7,7 +7,7 @@
 --     ended_by_fault, ended_exhausted     a run that ends comes to no later state
 --     first_found        a state in which one isn't true is the first
 --     none_found         if there is none, they are true in all of a run
-use Rattle.std.proofs.Common.{◌≡◌, ◌∙◌, ◌+◌, ◌<◌, ◌≤◌, ◌⊎◌, ℕ, true, false, List, [], ◌∷◌, Option, None, inl, inr, ap, refl, sym, subst, arith, below_more, true≢false}
+use Rattle.std.proofs.Common.{◌≡◌, ◌∙◌, ◌+◌, ◌<◌, ◌≤◌, ◌⊎◌, ℕ, true, false, List, [], ◌∷◌, Option, None, inl, inr, refl, sym, subst, arith, below_more, true≢false}
 use Rattle.std.specs.Prelude.{IfNone, IfSome, Some, is_some}
 use Rattle.std.specs.List.{list_all}
 use Rattle.std.proofs.lemmas.Bool.{cases_lt}

@@ -1,12 +1,14 @@
 -- Free. Comments for assignments, one after the other.
 --     one_more      a comment after others
 --     with_rest     comments after others
+--     rest_said     how many assignments aren't shown
+--     ok_then       what follows if something is done
 --     found_at      the assignment with a number
 --     lines_more    a line after those of assignments
 --     as_many       there are as many lines as assignments
 --     lines_long, too_many     each comment has 15 bytes at least, so that many don't fit
-use Rattle.std.proofs.Common.{◌≡◌, ◌∙◌, ◌+◌, ◌*◌, ◌<◌, ◌≤◌, ℕ, zero, suc, Some, get_or, List, [], ◌∷◌, ◌++◌, length, codes, inl, inr, refl, sym, ap, append-nil, length-append, arith}
-use Rattle.std.specs.Prelude.{◌⊎◌, slice_get}
+use Rattle.std.proofs.Common.{◌≡◌, ◌∙◌, ◌*◌, ◌<◌, ◌≤◌, ℕ, zero, suc, Some, get_or, List, [], ◌∷◌, ◌++◌, length, codes, inl, inr, refl, sym, ap, append-nil, length-append, arith}
+use Rattle.std.specs.Prelude.{◌⊎◌, ◌≢◌, decimal, slice_get, Result, Ok, Err, OnOk}
 use Rattle.asm_reader.specs.ScriptText.{max_script}
 use Rattle.std.proofs.lemmas.Grind.{flat_map-append}
 use Rattle.std.proofs.lemmas.List.{length-map}
@@ -15,7 +17,7 @@ use Rattle.asm_run.specs.declared.end.End.{End}
 use Rattle.asm_clash.specs.declared.assignment.Assignment.{Assignment}
 use Rattle.asm_explore_texts.specs.Comments.{comment, comments, in_one_line, shown}
 use Rattle.asm_explore_texts.specs.Positions.{position_text}
-use Rattle.asm_explore_run.specs.ClashText.{AreLinesOf, IsLineOf, assignment_text, bound_text, greatest_shown, located}
+use Rattle.asm_explore_run.specs.ClashText.{AreLinesOf, IsLineOf, assignment_text, bound_text, greatest_shown, located, more}
 
 pub with_rest : (first : List ℕ) (shown rest : List (List ℕ)) → comments (first ∷ shown) ++ comments rest ≡ comments (first ∷ (shown ++ rest))
 with_rest first shown rest = sym (flat_map-append comment (first ∷ shown) rest)
@@ -23,14 +25,18 @@ with_rest first shown rest = sym (flat_map-append comment (first ∷ shown) rest
 pub one_more : (first : List ℕ) (shown : List (List ℕ)) (line : List ℕ) → comments (first ∷ shown) ++ comment line ≡ comments (first ∷ (shown ++ line ∷ []))
 one_more first shown line = ap (λ t. comments (first ∷ shown) ++ t) (sym (append-nil (comment line))) ∙ with_rest first shown (line ∷ [])
 
+pub rest_said : (n : ℕ) → n ≢ 0 → comment (codes "and " ++ (decimal n ++ codes " more")) ≡ comments (more n)
+rest_said zero other = absurd (other refl)
+rest_said (suc n) other = sym (append-nil (comment (codes "and " ++ (decimal (suc n) ++ codes " more"))))
+
+pub ok_then : {T E : Type 0} (r : Result T E) (P Q : Type 0) → (P → Q) → OnOk r P → OnOk r Q
+ok_then (Ok x) P Q on is = on is
+ok_then (Err e) P Q on is = tt
+
 pub found_at : (found : List Assignment) (i : ℕ) (a : Assignment) → i < length found → a ≡ get_or found i a → slice_get found i ≡ Some a
 found_at [] i a low is = absurd (omega (arith, low))
 found_at (x ∷ found) zero a low is = ap Some (sym is)
 found_at (x ∷ found) (suc i) a low is = found_at found i a (omega (arith, low)) is
-
-comment_longer : (line : List ℕ) → 1 ≤ length line → 3 + length line ≤ length (comment line)
-comment_longer [] some = absurd (omega (arith, some))
-comment_longer (byte ∷ line) some = omega (arith, length-append (in_one_line (byte ∷ line)) (10 ∷ []), length-map (byte ∷ line) shown)
 
 module _ (text : List ℕ) (names : TraceNames) (end : End) where
   pub as_many : (found : List Assignment) (lines : List (List ℕ)) → AreLinesOf text names end found lines → length found ≡ length lines
@@ -63,7 +69,8 @@ module _ (text : List ℕ) (names : TraceNames) (end : End) where
   line_long a line (inr is) = let whole : length line ≡ length (assignment_text names (located names end a.arguments.items) a) = ap length is in omega (arith, whole, said_long a)
 
   comment_long : (a : Assignment) (line : List ℕ) → IsLineOf text names end a line → 15 ≤ length (comment line)
-  comment_long a line is = let long = line_long a line is in omega (arith, long, comment_longer line (omega (arith, long)))
+  comment_long a [] is = absurd (omega (arith, line_long a [] is))
+  comment_long a (b ∷ line) is = omega (arith, line_long a (b ∷ line) is, length-append (in_one_line (b ∷ line)) (10 ∷ []), length-map (b ∷ line) shown)
 
   pub lines_long : (found : List Assignment) (lines : List (List ℕ)) → AreLinesOf text names end found lines → 15 * length lines ≤ length (comments lines)
   lines_long [] [] are = omega arith

@@ -3,8 +3,8 @@ mod ChoiceEntries
 mod ClashLines
 mod FirstBroken
 mod KeySets
-mod MoreLines
 mod RunStatuses
 mod ShortLines
+mod ShownRuns
 mod UnmetTexts
 mod WithoutReport

@@ -3,6 +3,7 @@
 --     of_script           the script's is
 --     of_condition        one of the conditions is
 --     of_showing          the run of both can't be shown
+--     of_shown            nor as a table
 use Rattle.std.proofs.Common.{ℕ, List, inl, inr}
 use Rattle.asm_reader.specs.ScriptLines.{Script}
 use Rattle.asm_reader.specs.ScriptText.{IsScript}
@@ -16,8 +17,11 @@ use Rattle.asm_explore_words.specs.declared.fault.Fault.TheVariants as fault
 use Rattle.asm_explore_words.specs.declared.fault.Unshown.{Unshown}
 use Rattle.asm_explore_words.specs.declared.fault.Unshown.TheVariants as unshown
 use Rattle.asm_explore_words.specs.declared.settings.RunSettings.{RunSettings}
+use Rattle.asm_explore_words.specs.declared.settings.ShowSettings.{ShowSettings}
+use Rattle.asm_explore_texts.specs.declared.conditions.Condition.{Condition}
 use Rattle.asm_explore_report.specs.Refusals.{IsSpecificationRefused}
 use Rattle.asm_explore_run.specs.RunReport.{ExplainsRun}
+use Rattle.asm_explore_run.specs.ShowReport.{ExplainsShow, IsWithoutRefusal}
 
 module _ (text script_text : List ℕ) (conditions : List Condition) (settings : RunSettings) where
   pub of_specification : (why : Fault) → ExplainsText (IsSpecificationRefused text settings.spec.now) why → ExplainsRun text script_text conditions settings why
@@ -48,3 +52,8 @@ module _ (text script_text : List ℕ) (conditions : List Condition) (settings :
     pub of_showing : (why : Unshown) (script : Script) → IsScript script_text script → ExplainsRun text script_text conditions settings (fault_of_unshown why)
     of_showing unshown.Memory script spelled = tt
     of_showing unshown.Unconfirmed script spelled = ((tree, accepted), (script, spelled))
+
+pub of_shown : (text script_text : List ℕ) (conditions : List Condition) (settings : ShowSettings) (why : Unshown) → IsWithoutRefusal text script_text conditions settings
+    → ExplainsShow text script_text conditions settings (fault_of_unshown why)
+of_shown text script_text conditions settings unshown.Memory is = tt
+of_shown text script_text conditions settings unshown.Unconfirmed is = is

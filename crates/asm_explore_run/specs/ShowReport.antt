@@ -6,9 +6,11 @@
 --                               the table; the assignments by which it ends; and the lines of the
 --                               given script that name no choice. Behind them stands the script
 --     IsShown                   the run that settings ask for is shown so
---     ExplainsShow              why there is no report: no location has a name that is to be shown,
---                               nor the function of one; or for a reason of each run (`ExplainsRun`)
-use Rattle.std.specs.Prelude.{◌≡◌, ◌⊎◌, All, Contains, ℕ, true, false, List, [], ◌∷◌, ◌++◌, map, codes}
+--     IsWithoutRefusal          no text is refused, and each name is known that is to be shown
+--     ExplainsShow              why there is no report: a text is refused; no location has a name
+--                               that is to be shown, nor the function of one; memory ran out; or the
+--                               run of texts that aren't refused is
+use Rattle.std.specs.Prelude.{◌≡◌, ◌⊎◌, All, ℕ, true, List, [], ◌∷◌, ◌++◌, map, codes, ⊤}
 use Rattle.asm_syntax.specs.SourceTree.{Spec, Term}
 use Rattle.asm_reader.specs.ScriptLines.{Script}
 use Rattle.asm_reader.specs.ScriptText.{IsScript}
@@ -19,13 +21,14 @@ use Rattle.asm_explore.specs.RunChoices.{AreChoices, lines_forward}
 use Rattle.asm_explore.specs.declared.outcomes.listed_outcome.Choice.{Choice}
 use Rattle.asm_explore_texts.specs.Comments.{comments}
 use Rattle.asm_explore_texts.specs.Conditions.{AreAskedOf, texts_of}
+use Rattle.asm_explore_texts.specs.RefusedTexts.{IsOneRefused}
 use Rattle.asm_explore_texts.specs.declared.conditions.Condition.{Condition}
 use Rattle.asm_explore_table.specs.Rows.{rows_of}
-use Rattle.asm_explore_table.specs.Tables.{IsTable, is_known}
+use Rattle.asm_explore_table.specs.Tables.{IsFirstUnknown, IsTable, is_known}
 use Rattle.asm_explore_report.specs.Commands.{command}
+use Rattle.asm_explore_report.specs.Refusals.{IsRunRefused}
 use Rattle.asm_explore_report.specs.declared.report.Report.{Report}
 use Rattle.asm_explore_run.specs.AskedRun.{run_status}
-use Rattle.asm_explore_run.specs.RunReport.{ExplainsRun}
 use Rattle.asm_explore_run.specs.ShownRun.{IsShownEnd, ShownEnd}
 use Rattle.asm_explore_run.specs.UnmetLines.{unmet_lines}
 use Rattle.asm_explore_words.specs.declared.fault.Fault.{Fault}
@@ -66,6 +69,19 @@ module _ (text script_text : List ℕ) (conditions : List Condition) (settings :
     pub printed : IsShowText tree settings.run.turns script settings.run.spec.now (names_shown settings) end (unmet_lines script_text (lines_forward steps)) report.text.items
     pub status : report.status ≡ run_status end.is_fault (unmet_lines script_text (lines_forward steps))
 
+  pub record IsWithoutRefusal : Type 0 where
+    pub tree : Spec
+    pub accepted : IsAccepted text tree
+    pub script : Script
+    pub spelled : IsScript script_text script
+    pub terms : List Term
+    pub asked : AreAskedOf tree (texts_of conditions) terms
+    pub known : All (λ name. is_known tree name ≡ true) (names_shown settings)
+
   abbrev pub ExplainsShow : Fault → Type 0
-  ExplainsShow (fault.Name name) = (s : Spec) × IsAccepted text s × Contains (names_shown settings) name.now × (is_known s name.now ≡ false)
-  ExplainsShow why = ExplainsRun text script_text conditions settings.run why
+  ExplainsShow (fault.Text refused) = IsRunRefused text settings.run.spec.now script_text settings.run refused ⊎ ((s : Spec) × IsAccepted text s × IsOneRefused s conditions refused)
+  ExplainsShow (fault.Name name) = (s : Spec) × IsAccepted text s × IsFirstUnknown s (names_shown settings) name.now
+  ExplainsShow fault.Memory = ⊤
+  ExplainsShow fault.Unconfirmed = IsWithoutRefusal
+  ExplainsShow (fault.Graph name) = ⊥
+  ExplainsShow (fault.QuietScript name) = ⊥

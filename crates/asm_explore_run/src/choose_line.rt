@@ -9,12 +9,10 @@ ghost use Rattle.asm_explore_run.specs.ChoicesText as behind;
 
 use asm_check::Checked;
 use asm_explore::ChoicePoint;
-use asm_explore_texts::position_text::{is_name_at, push_name, push_position};
-use asm_explore_texts::rule_in_text::rule_in_text;
+use asm_explore_texts::position_text::{push_name, push_position};
+use asm_explore_texts::variable_at::variable_at;
 use asm_run::locations::{push_path, push_value};
 use asm_state::word::Word;
-use asm_syntax::name::Name;
-use asm_syntax::rule::Rule;
 use std::alloc::{AllocError, Global};
 
 /// How many candidates are listed.
@@ -61,9 +59,9 @@ fn push_choose(
 ) -> Result<(), AllocError>
     ensures { OnOk result ((words : List ℕ) × IsChoose text.now path.now words × (line.new.items ≡ line.old.items ++ words)) }
 {
-    match variable(alloc, checked, path)? {
-        Some(name) if is_name_at(text, name.at) => push_variable(alloc, line, text, name.at),
-        _ => push_place(line, path),
+    match variable_at(alloc, text, checked, path)? {
+        Some(at) => push_variable(alloc, line, text, at),
+        None => push_place(line, path),
     }
 }
 
@@ -90,19 +88,6 @@ fn push_place(line: &mut Vec<u8>, path: &[u64]) -> Result<(), AllocError>
     push_path(line, path)?;
     line.extend_from_slice(b": choose")?;
     Ok(())
-}
-
-/// The variable of the `choose` at a path of the main rule, if the text has one there.
-fn variable<'c>(
-    alloc: Global,
-    checked: &'c Checked,
-    path: &[u64],
-) -> Result<Option<&'c Name>, AllocError> {
-    let place = rule_in_text(alloc, checked, path)?;
-    Ok(place.and_then(|place| match place.rule {
-        Rule::Choose { name, .. } => Some(name),
-        _ => None,
-    }))
 }
 
 /// Adds the first candidates, the one that is taken, which has this number, and how many more there

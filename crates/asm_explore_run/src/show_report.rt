@@ -18,7 +18,7 @@ ghost use Rattle.asm_explore_run.specs.code.ShownEnds.{end_said};
 
 use crate::asked_end::{broken_of, status_of};
 use crate::show_text::show_text;
-use crate::shown_end::{ShownEnd, broken_end, whole_end};
+use crate::shown_end::{ShownEnd, shown_end};
 use crate::unmet_lines::unmet_lines;
 use asm_check::Checked;
 use asm_explore::{choices_of_run, lines_of_run};
@@ -42,8 +42,8 @@ fn unmet_of(
     script: &Script,
     steps: u32,
 ) -> Result<Vec<Vec<u8>>, AllocError>
-    ensures { IfOk result (λ unmet. (made : List (List Choice)) × AreChoices (spec_of checked.now.spec) turns script.now steps made
-        × (lines_of unmet.items ≡ unmet.unmet_lines script_text.now (lines_forward made))) }
+    ensures { IfOk result (λ lines. (made : List (List Choice)) × AreChoices (spec_of checked.now.spec) turns script.now steps made
+        × (lines_of lines.items ≡ unmet.unmet_lines script_text.now (lines_forward made))) }
 {
     let run = choices_of_run(alloc, checked, turns, script, steps)?;
     let made = lines_of_run(alloc, &run)?;
@@ -87,14 +87,13 @@ fn report_of<'w, R: Threads + Sync>(
     ensures explained { IfErr result (ExplainsShow text.now script_text.now conditions.now settings.now) }
 {
     let script = script_given(alloc, script_text, &settings.run)?;
-    if let Some(name) = unknown_name(alloc, checked, settings.names.as_slice())? {
-        return Err(Fault::Name(name));
+    match unknown_name(alloc, checked, settings.names.as_slice())? {
+        Some(name) => return Err(Fault::Name(name)),
+        None => {}
     }
     let run = &settings.run;
-    let end = match broken_of(alloc, checked, &script, conditions, run)? {
-        Some(broken) => broken_end(alloc, broken)?,
-        None => whole_end(rt, alloc, text, checked, script_text, &script, run)?,
-    };
+    let broken = broken_of(alloc, checked, &script, conditions, run)?;
+    let end = shown_end(rt, alloc, text, checked, script_text, &script, run, broken)?;
     let report = report_of_end(alloc, checked, script_text, &script, settings, &end)?;
     Ok(report)
 }

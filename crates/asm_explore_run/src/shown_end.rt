@@ -10,6 +10,7 @@ ghost use Rattle.asm_explore_texts.specs.Comments.{lines_of};
 ghost use Rattle.asm_explore_report.specs.BrokenRuns.{HoldBefore, IsFirstBroken};
 ghost use Rattle.asm_explore_run.specs.AskedRun.{is_fault};
 ghost use Rattle.asm_explore_run.specs.ShownRun.{IsShownEnd, steps_made};
+ghost use Rattle.asm_explore_run.specs.code.AskedEnds.{IsFoundOf};
 ghost use Rattle.asm_explore_run.specs.code.ShownEnds.{end_said};
 
 use crate::asked_end::ends_by_fault;
@@ -55,7 +56,7 @@ fn steps_of(end: &End, steps: u32) -> Result<u32, Unshown>
 }
 
 /// The end of a run that is shown up to a state in which a condition isn't true.
-pub(crate) fn broken_end(alloc: Global, broken: BrokenState) -> Result<ShownEnd, AllocError>
+fn broken_end(alloc: Global, broken: BrokenState) -> Result<ShownEnd, AllocError>
     ensures { (text : List ℕ) (tree : Spec) (terms : List SourceTerm) (turns : ℕ) (script : lines.Script) (steps : ℕ) →
         broken.steps ≤ steps → IsFirstBroken tree terms turns script broken.steps broken.told.words.items (lines_of broken.told.because.items) →
         IfOk result (λ end. IsShownEnd text tree terms turns script steps (end_said end)) }
@@ -72,7 +73,7 @@ pub(crate) fn broken_end(alloc: Global, broken: BrokenState) -> Result<ShownEnd,
 }
 
 /// The end of a run that is shown up to its end, since no condition is found that isn't true.
-pub(crate) fn whole_end<R: Threads + Sync>(
+fn whole_end<R: Threads + Sync>(
     rt: &R,
     alloc: Global,
     text: &[u8],
@@ -99,4 +100,32 @@ pub(crate) fn whole_end<R: Threads + Sync>(
         assignments,
         is_fault: ends_by_fault(&ended.end),
     })
+}
+
+/// The end of a run that is shown, of which this is found of conditions.
+pub(crate) fn shown_end<R: Threads + Sync>(
+    rt: &R,
+    alloc: Global,
+    text: &[u8],
+    checked: &Checked,
+    script_text: &[u8],
+    script: &Script,
+    settings: &RunSettings<'_>,
+    broken: Option<BrokenState>,
+) -> Result<ShownEnd, Unshown>
+    requires accepted { IsAccepted text.now (spec_of checked.now.spec) }
+    requires spelled { IsScript script_text.now script.now }
+    ensures { let s = spec_of checked.now.spec in (asked : List (List ℕ)) (terms : List SourceTerm) → IsFoundOf s asked settings.now.turns script.now settings.now.steps terms broken →
+        IfOk result (λ end. IsShownEnd text.now s terms settings.now.turns script.now settings.now.steps (end_said end)) }
+{
+    match broken {
+        Some(broken) => {
+            let end = broken_end(alloc, broken)?;
+            Ok(end)
+        }
+        None => {
+            let end = whole_end(rt, alloc, text, checked, script_text, script, settings)?;
+            Ok(end)
+        }
+    }
 }

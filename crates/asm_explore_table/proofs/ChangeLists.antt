@@ -8,7 +8,7 @@
 --     any_said                 whether one of the names is a text
 --     all_if                   what is so of all of some, and of one that may be among them
 --     noted_done, noted_left   which locations are noted, after one more
-use Rattle.std.proofs.Common.{◌≡◌, ◌∙◌, ◌+◌, ◌-◌, ◌<◌, ◌≤◌, ◌⊎◌, ◌≢◌, ◌||◌, ◌++◌, ◌∷◌, [], ℕ, zero, suc, Bool, Bor, true, false, cond, List, inl, inr, length, get_or, set, map, filter, ap, refl, sym, append-nil, arith, below_more}
+use Rattle.std.proofs.Common.{◌≡◌, ◌∙◌, ◌+◌, ◌-◌, ◌<◌, ◌≤◌, ◌≢◌, ◌||◌, ◌++◌, ◌∷◌, [], ℕ, zero, suc, Bool, Bor, true, false, cond, List, length, get_or, set, map, filter, ap, refl, sym, arith, below_more}
 use Rattle.std.specs.List.{list_any, range_with_len}
 use Rattle.std.specs.Str.{bytes_eq}
 use Rattle.std.proofs.lemmas.List.{get_or-set_same, get_or-set_other}

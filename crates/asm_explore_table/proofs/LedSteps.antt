@@ -1,7 +1,7 @@
 -- Free. Where a step leads.
 --     led_on         a consistent set leads to the state that it is fired to
 --     led_nowhere    one that isn't leads nowhere
-use Rattle.std.proofs.Common.{◌≡◌, Bool, true, false, cond, Option, Some, None, refl, ap}
+use Rattle.std.proofs.Common.{◌≡◌, Bool, true, false, cond, Some, None, refl, ap}
 use Rattle.asm_state.specs.Location.{State}
 use Rattle.asm_state.specs.UpdateLaws.{TestLaws}
 use Rattle.asm_state.specs.Updates.{UpdateSet, IsConsistent, fire, is_consistent}

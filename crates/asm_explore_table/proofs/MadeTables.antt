@@ -4,11 +4,11 @@
 --     columns_known              the columns are those of the definition
 --     blocks_within              each column of the blocks is of a location
 --     table_made                 the lines that are written are a table
-use Rattle.std.proofs.Common.{◌≡◌, ◌∙◌, ◌+◌, ◌-◌, ◌<◌, ◌≤◌, ◌⊎◌, inl, inr, ◌&&◌, ◌++◌, ◌∷◌, [], ℕ, zero, suc, Bool, false, List, length, map, take, cond, ap, refl, subst, sym, append_assoc, arith}
+use Rattle.std.proofs.Common.{◌≡◌, ◌∙◌, ◌+◌, ◌-◌, ◌<◌, ◌≤◌, ◌⊎◌, inl, inr, ◌&&◌, ◌++◌, ◌∷◌, [], ℕ, zero, suc, Bool, false, List, length, map, take, cond, ap, refl, sym, append_assoc, arith}
 use Rattle.std.specs.Prelude.{All, filter, is_some, slice_index_or}
-use Rattle.std.specs.List.{flat_map, list_any, range_with_len}
+use Rattle.std.specs.List.{flat_map, range_with_len}
 use Rattle.std.proofs.lemmas.List.{length-take-le, take_all}
-use Rattle.std.proofs.lemmas.List.Elements.{All-append, All-take}
+use Rattle.std.proofs.lemmas.List.Elements.{All-take}
 use Rattle.std.proofs.lemmas.Bool.{cases_lt}
 use Rattle.asm_state.specs.Location.{State}
 use Rattle.asm_state.specs.Signature.{count_of}
@@ -16,13 +16,13 @@ use Rattle.asm_state.specs.Updates.{is_proper}
 use Rattle.asm_syntax.specs.SourceTree.{Spec}
 use Rattle.asm_check.specs.Shapes.{shape_of}
 use Rattle.asm_explore_texts.specs.Comments.{comments}
-use Rattle.asm_explore_table.specs.Rows.{Row, changes, chooses}
+use Rattle.asm_explore_table.specs.Rows.{Row, chooses}
 use Rattle.asm_explore_table.specs.Tables.{IsTable, blocks_lines, columns, is_column, more_columns, numbered, numbers_in, shown_columns}
 use Rattle.asm_explore_table.specs.declared.block.Block.{Block}
 use Rattle.asm_explore_table.specs.declared.block.Column.{Column}
 use Rattle.asm_explore_table.specs.declared.extent.Extent.{Extent}
 use Rattle.asm_explore_table.specs.code.Extents.{IsExtentOf}
-use Rattle.asm_explore_table.specs.code.StepsMade.{AreBlocks, AreWithin, IsWithin, column_by}
+use Rattle.asm_explore_table.specs.code.StepsMade.{AreBlocks, AreWithin, column_by}
 use Rattle.asm_explore_table.proofs.ChangeLists.{any_mapped, filter_more}
 use Rattle.asm_explore_table.proofs.TableLines.{comments_more}
 
@@ -97,15 +97,16 @@ module _ (s : Spec) (names : List (List ℕ)) (first : State) (rows : List Row) 
       → (lines : List (List ℕ)) × (new ≡ out ++ comments lines) × IsTable s names first rows lines
   table_made [] marked of_all written added = absurd marked
   table_made (head ∷ others) marked of_all written added =
-      let lines = blocks_lines s width first rows head others in
-      (lines ++ rest,
-      added ∙ ap (λ t. t ++ comments rest) (written head others refl) ∙ append_assoc out (comments lines) (comments rest) ∙ ap (λ t. out ++ t) (sym (comments_more lines rest)),
-      record {
-        width = width;
-        head = head;
-        others = others;
-        of_all = of_all;
-        chosen = marked.0 ∙ is_found;
-        unchosen = sym (any_mapped (λ b. b) (λ (b : Block). is_some b.chosen) others) ∙ marked.1;
-        is = refl;
-      })
+      let lines = blocks_lines s width first rows head others in (
+        lines ++ rest,
+        added ∙ ap (λ t. t ++ comments rest) (written head others refl) ∙ append_assoc out (comments lines) (comments rest) ∙ ap (λ t. out ++ t) (sym (comments_more lines rest)),
+        record {
+          width = width;
+          head = head;
+          others = others;
+          of_all = of_all;
+          chosen = marked.0 ∙ is_found;
+          unchosen = sym (any_mapped (λ b. b) (λ (b : Block). is_some b.chosen) others) ∙ marked.1;
+          is = refl;
+        },
+      )

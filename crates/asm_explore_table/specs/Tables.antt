@@ -10,11 +10,12 @@
 --     block_lines              the lines of a block of columns: its heads and all rows
 --     is_column                a location is a column: one of those named, or else one that changes
 --     is_known s name          some location has this name, or its function
+--     IsFirstUnknown names name    it is the first of the names that isn't known
 --     columns                  the numbers of all columns, in order
 --     IsTable                  these lines are the table of a run: blocks of columns beside each
 --                              other, with an empty line between each two. Which columns stand beside
 --                              each other is free, and where they begin
-use Rattle.std.specs.Prelude.{◌≡◌, ℕ, zero, suc, ◌-◌, Bool, true, false, cond, ◌&&◌, ◌||◌, not, is_some, nat_eq, List, [], ◌∷◌, ◌++◌, map, filter, length, take, All, Option, Some, None, codes, decimal}
+use Rattle.std.specs.Prelude.{All, true, false, ◌≡◌, ℕ, zero, suc, ◌-◌, Bool, cond, ◌&&◌, ◌||◌, is_some, nat_eq, List, [], ◌∷◌, ◌++◌, map, filter, length, take, Option, Some, None, codes, decimal}
 use Rattle.std.specs.List.{flat_map, join_by, list_any, range_with_len}
 use Rattle.std.specs.Str.{bytes_eq}
 use Rattle.asm_state.specs.declared.value.Value.{Value}
@@ -148,6 +149,14 @@ is_column s (name ∷ names) rows l = is_proper l && is_named s (name ∷ names)
 -- some location has this name, or its function
 abbrev pub is_known : Spec → (name : List ℕ) → Bool
 is_known s name = list_any (λ n. let l = numbered s n in is_proper l && is_named s (name ∷ []) l) (range_with_len 0 (count_of (shape_of s)))
+
+-- no location has this name, nor its function, and it is the first of the names
+pub record IsFirstUnknown (s : Spec) (names : List (List ℕ)) (name : List ℕ) : Type 0 where
+  pub before : List (List ℕ)
+  pub after : List (List ℕ)
+  pub parts : names ≡ before ++ name ∷ after
+  pub known : All (λ one. is_known s one ≡ true) before
+  pub unknown : is_known s name ≡ false
 
 abbrev pub columns : Spec → (names : List (List ℕ)) → List Row → List ℕ
 columns s names rows = filter (λ n. is_column s names rows (numbered s n)) (range_with_len 0 (count_of (shape_of s)))

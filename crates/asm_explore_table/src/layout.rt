@@ -204,7 +204,12 @@ pub(crate) fn blocks(
     for k in 0..columns.len() {
         let column = Unplaced::of(alloc, checked, extent, columns[k])?;
         let is_full = begun.is_full_with(&column, width);
-        make_room(&mut blocks, &mut begun, is_full, Begun::new(alloc, None, steps))?;
+        make_room(
+            &mut blocks,
+            &mut begun,
+            is_full,
+            Begun::new(alloc, None, steps),
+        )?;
         begun.add(&column)?;
     }
     blocks.push(begun.into_block())?;

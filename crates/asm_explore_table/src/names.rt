@@ -1,7 +1,7 @@
 //! Names of locations that a table is to show.
-ghost use Rattle.std.specs.Prelude.{◌≡◌, All, Contains, false, true, IfNone, IfOk, IfSome};
+ghost use Rattle.std.specs.Prelude.{◌≡◌, All, true, IfNone, IfOk, IfSome};
 ghost use Rattle.asm_syntax.specs.code.Views.{spec_of};
-ghost use Rattle.asm_explore_table.specs.Tables.{is_known as is_known_name};
+ghost use Rattle.asm_explore_table.specs.Tables.{IsFirstUnknown, is_known as is_known_name};
 ghost use Rattle.asm_explore_table.specs.code.StepsMade.{names_said};
 
 use crate::columns::is_named;
@@ -28,7 +28,7 @@ pub fn unknown_name<'w>(
     names: &[&'w str],
 ) -> Result<Option<&'w str>, AllocError>
     ensures some { let s = spec_of checked.now.spec in
-        IfOk result (λ found. IfSome found (λ name. Contains (names_said names.now) name.now × (is_known_name s name.now ≡ false))) }
+        IfOk result (λ found. IfSome found (λ name. IsFirstUnknown s (names_said names.now) name.now)) }
     ensures none { let s = spec_of checked.now.spec in
         IfOk result (λ found. IfNone found (All (λ name. is_known_name s name ≡ true) (names_said names.now))) }
 {

@@ -11,3 +11,4 @@ pub mod position;
 pub mod position_text;
 pub mod rule_in_text;
 pub mod script_given;
+pub mod variable_at;

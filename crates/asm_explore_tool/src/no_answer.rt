@@ -41,11 +41,11 @@ impl<'w> NoAnswer<'w> {
         ensures { result ≡ status_of self.now }
     {
         match self {
-            NoAnswer::Text(..) => 2,
+            NoAnswer::Text(..) | NoAnswer::Name(_) => 2,
             NoAnswer::Memory | NoAnswer::File(_) | NoAnswer::Write => 3,
             NoAnswer::Graph(_) | NoAnswer::QuietScript(_) => 3,
             NoAnswer::Unconfirmed => 3,
-            NoAnswer::Words(_) | NoAnswer::NotText | NoAnswer::Name(_) => 4,
+            NoAnswer::Words(_) | NoAnswer::NotText => 4,
         }
     }
 

@@ -111,9 +111,9 @@ script has a line for each choice that isn't the first candidate.
 Status:
   0  the run made all its steps; or help or the version was asked for
   1  the run ended early: clash, outside or exhausted; or a condition isn't true
-  2  the specification, the script or a condition is refused
+  2  the specification, the script or a condition is refused, or a name of --only is in no location
   3  out of memory, a file can't be read, or the output can't be written
-  4  the command line is wrong, or a name of --only is in no location
+  4  the command line is wrong
   6  the run made all its steps, and a line of the given script met no choose";
 
 /// What is below the options of `random`.

@@ -9,7 +9,7 @@ use Rattle.std.proofs.lemmas.Option.{slice_get_within}
 use Rattle.asm_explore.specs.code.OutcomeLists.{Each}
 use Rattle.asm_graph.specs.declared.graph.Node.{Node}
 use Rattle.asm_graph.specs.declared.graph.Step.{Step}
-use Rattle.asm_graph.specs.Graphs.{AreFound, ComesFrom, DepthsRise, LeadsTo}
+use Rattle.asm_graph.specs.Graphs.{AreFound, DepthsRise, LeadsTo}
 use Rattle.asm_graph.specs.code.GraphSoFar.{AreNew, AreShallow}
 use Rattle.asm_graph.proofs.MoreNodes.{at_more}
 use Rattle.asm_graph.proofs.Paired.{each_weaker, got_same, later_got, slice_first, slice_last, some_at}

@@ -3,7 +3,7 @@
 --                         or less, unless it passes a crowded one
 --     is_complete         so all states that runs come to are those of nodes, unless they do
 --     are_least           and no run of fewer steps comes to the state of a node, unless it does
-use Rattle.std.proofs.Common.{◌≡◌, ℕ, zero, suc, ◌+◌, ◌≤◌, ◌<◌, ◌⊎◌, Bool, true, false, cond, List, [], ◌∷◌, length, map, inl, inr, refl, sym, ap, subst, ◌∙◌, arith}
+use Rattle.std.proofs.Common.{◌≡◌, ℕ, zero, suc, ◌+◌, ◌≤◌, ◌<◌, ◌⊎◌, Bool, true, false, cond, List, [], ◌∷◌, map, inl, inr, refl, sym, ap, subst, ◌∙◌, arith}
 use Rattle.std.proofs.lemmas.Bool.{false≢true}
 use Rattle.std.specs.Prelude.{slice_get, Some}
 use Rattle.asm_state.proofs.UpdateLemmas.Faults.{fault_laws}
@@ -29,7 +29,7 @@ use Rattle.asm_graph.specs.declared.graph.Step.TheVariants as step
 use Rattle.asm_graph.specs.declared.graph.StepFault.{StepFault}
 use Rattle.asm_graph.specs.Graphs.{AreApart, ComesTo, GoesTo, HasFault, IsComplete, IsCrowded, IsLeast, IsShown, Pairs, PassesCrowd, StandsAt, state_at}
 use Rattle.asm_graph.specs.code.GraphSoFar.{AreNear, AreShallow, IsNear}
-use Rattle.asm_graph.proofs.Paired.{apart_same, each_got, got_mapped, got_same, pairs_at}
+use Rattle.asm_graph.proofs.Paired.{apart_same, got_mapped, got_same, pairs_at}
 
 -- ---- a step that goes wrong
 

@@ -9,5 +9,8 @@ pub mod SameConditions
 pub mod QuietNodes
 pub mod QuietTest
 pub mod Texts
+pub mod DrawnArrows
+pub mod WayLemmas
+pub mod WalkLemmas
 pub mod ShownContents
 pub mod Quoted

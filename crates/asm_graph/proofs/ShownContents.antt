@@ -2,7 +2,7 @@
 --     of_none                  what holds of no value
 --     content_at               the content of a proper location has its number
 --     lines_shown, lines_hidden    a location that isn't undef has a line, and one that is has none
-use Rattle.std.proofs.Common.{◌≡◌, ◌≢◌, ℕ, ◌<◌, true, false, Option, Some, None, List, [], ◌∷◌, ◌++◌, refl, ap, sym, subst, ◌∙◌}
+use Rattle.std.proofs.Common.{◌≡◌, ◌≢◌, ℕ, ◌<◌, false, Option, Some, None, List, [], ◌∷◌, ◌++◌, refl, ap, sym, ◌∙◌}
 use Rattle.std.proofs.lemmas.Bool.{false≢true}
 use Rattle.std.specs.Prelude.{codes, is_some, slice_index_or, IfNone, IsTrue}
 use Rattle.asm_state.proofs.StatesByNumbers.{state_laws}

@@ -1,12 +1,11 @@
 -- Free. Texts, piece by piece.
 --     mark, mark_more, join_more      pieces with a mark between each two, and one more
---     node_lines_more, edge_lines_more     lines of nodes and of steps, and those of one more
+--     node_lines_more                 lines of nodes, and those of one more
 --     pieces_more                     the pieces of one more element
 --     cut_short, not_cut              lines that are shown, if there are more than twelve or not
 --     joined_next, mark_next          what is written of pieces with a mark between each two
 --     pushed                          what is written, if it could be
---     node_lines_next, edge_lines_next     the lines of the first nodes, or steps, and those of one
---                                     more
+--     node_lines_next                 the lines of the first nodes, and those of one more
 --     fault_shown                     the line of a fault that some edge has
 --     cut_text                        lines with `..` after them
 --     seven_pieces                    a text of seven pieces
@@ -21,7 +20,7 @@ use Rattle.asm_syntax.specs.SourceTree.{Spec}
 use Rattle.asm_graph.specs.declared.graph.Node.{Node}
 use Rattle.asm_graph.specs.declared.graph.Step.{Step}
 use Rattle.asm_graph.specs.declared.graph.StepFault.{StepFault}
-use Rattle.asm_graph.specs.Dot.{edge_lines, fault_line, fault_name, has_fault, node_line, node_lines, step_lines}
+use Rattle.asm_graph.specs.Dot.{fault_line, fault_name, has_fault, node_line, node_lines}
 use Rattle.asm_graph.specs.Labels.{shortened}
 
 -- what is between elements and one more
@@ -48,13 +47,6 @@ node_lines_more s i (m ∷ nodes) (w ∷ steps) n step same =
     ap (λ t. node_line s i m w ++ t) (node_lines_more s (suc i) nodes steps n step (omega (arith, same)))
     ∙ sym (append_assoc (node_line s i m w) (node_lines s (suc i) nodes steps) (node_line s (suc i + length nodes) n step))
     ∙ ap (λ j. (node_line s i m w ++ node_lines s (suc i) nodes steps) ++ node_line s j n step) (omega arith)
-
-pub edge_lines_more : (i : ℕ) (steps : List Step) (step : Step) → edge_lines i (steps ++ step ∷ []) ≡ edge_lines i steps ++ step_lines (i + length steps) step
-edge_lines_more i [] step = append-nil (step_lines i step) ∙ ap (λ j. step_lines j step) (omega arith)
-edge_lines_more i (w ∷ steps) step =
-    ap (λ t. step_lines i w ++ t) (edge_lines_more (suc i) steps step)
-    ∙ sym (append_assoc (step_lines i w) (edge_lines (suc i) steps) (step_lines (suc i + length steps) step))
-    ∙ ap (λ j. (step_lines i w ++ edge_lines (suc i) steps) ++ step_lines j step) (omega arith)
 
 -- ---- lines that are shown
 
@@ -116,15 +108,6 @@ node_lines_next s nodes steps i n step start old new low paired is_node is_step 
     ∙ ap (node_lines s 0 (take i nodes ++ n ∷ [])) (one_more steps i step (omega (arith, low, paired)) is_step)
     ∙ node_lines_more s 0 (take i nodes) (take i steps) n step same ∙ ap (λ j. node_lines s 0 (take i nodes) (take i steps) ++ node_line s j n step) (omega (arith, count)) in
     is_new ∙ ap (λ t. t ++ node_line s i n step) is_old ∙ append_assoc start (node_lines s 0 (take i nodes) (take i steps)) (node_line s i n step) ∙ ap (λ t. start ++ t) (sym whole)
-
-pub edge_lines_next : (steps : List Step) (i : ℕ) (step : Step) (start old new : List ℕ) → i < length steps → step ≡ get_or steps i step
-    → old ≡ start ++ edge_lines 0 (take i steps) → new ≡ old ++ step_lines i step → new ≡ start ++ edge_lines 0 (take (i + 1) steps)
-edge_lines_next steps i step start old new low is_step is_old is_new =
-    let count : length (take i steps) ≡ i = length-take-le i steps (omega (arith, low)) in
-    let whole : edge_lines 0 (take (i + 1) steps) ≡ edge_lines 0 (take i steps) ++ step_lines i step =
-    ap (edge_lines 0) (one_more steps i step low is_step) ∙ edge_lines_more 0 (take i steps) step
-    ∙ ap (λ j. edge_lines 0 (take i steps) ++ step_lines j step) (omega (arith, count)) in
-    is_new ∙ ap (λ t. t ++ step_lines i step) is_old ∙ append_assoc start (edge_lines 0 (take i steps)) (step_lines i step) ∙ ap (λ t. start ++ t) (sym whole)
 
 pub fault_shown : (steps : List Step) (f : StepFault) (start : List ℕ) → list_any (has_fault f) steps ≡ true
     → ((start ++ codes "  ") ++ fault_name f) ++ codes " [shape=octagon, color=red, fontcolor=red];\n" ≡ start ++ fault_line steps f

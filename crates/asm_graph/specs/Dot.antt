@@ -9,15 +9,17 @@
 --                          red if its state isn't right, or is quiet and no run may rest in it, and
 --                          grey if it is quiet, or dashed if no edges of it are shown
 --     fault_line           the line of a kind of fault, if some edge has it
---     edge_line i e        the line of an edge from the node with this number: where it leads, and
---                          its choices
---     dot_of s graph       the whole text: the name of the specification, the nodes, the faults and
---                          the edges, and `}` in the last line
+--     arrow_line arrow     the line of an edge as it is drawn: from which node it leads where, its
+--                          label, and whether it is red
+--     dot_of s graph arrows    the whole text: the name of the specification, the nodes, the faults
+--                          and the edges, and `}` in the last line
+--     IsDotOf              such a text, with each edge of the graph as it is to be drawn, and those
+--                          of a path red
 use Rattle.std.specs.Prelude.{◌≡◌, ℕ, suc, Bool, true, false, not, ◌&&◌, ◌||◌, ◌==◌, if◌then◌else◌, List, [], ◌∷◌, ◌++◌, codes, decimal, encode_utf8}
 use Rattle.std.specs.List.{flat_map, list_all, list_any}
-use Rattle.asm_state.specs.Signature.{Shape}
 use Rattle.asm_syntax.specs.SourceTree.{Spec}
 use Rattle.asm_check.specs.Shapes.{shape_of}
+use Rattle.asm_graph.specs.declared.arrow.Arrow.{Arrow}
 use Rattle.asm_graph.specs.declared.graph.Edge.{Edge}
 use Rattle.asm_graph.specs.declared.graph.EdgeEnd.{EdgeEnd}
 use Rattle.asm_graph.specs.declared.graph.EdgeEnd.TheVariants as target
@@ -28,7 +30,8 @@ use Rattle.asm_graph.specs.declared.graph.Step.TheVariants as step
 use Rattle.asm_graph.specs.declared.graph.StepFault.{StepFault}
 use Rattle.asm_graph.specs.declared.graph.StepFault.TheVariants as fault
 use Rattle.asm_graph.specs.Graphs.{state_at}
-use Rattle.asm_graph.specs.Labels.{choices_label, node_label}
+use Rattle.asm_graph.specs.Arrows.{AreArrows}
+use Rattle.asm_graph.specs.Labels.{node_label}
 
 -- ---- texts within quotes
 
@@ -64,8 +67,11 @@ is_quiet i (step.Edges es) = list_all (λ (e : Edge). is_node i e.to) es.items
 abbrev pub first_mark : ℕ → List ℕ
 first_mark i = if i == 0 then codes ", peripheries=2" else []
 
+abbrev pub red_mark : Bool → List ℕ
+red_mark is_red = if is_red then codes ", color=red, fontcolor=red" else []
+
 abbrev pub wrong_mark : (quiet : Bool) → Node → List ℕ
-wrong_mark quiet n = if not n.right || (quiet && not n.rests) then codes ", color=red, fontcolor=red" else []
+wrong_mark quiet n = red_mark (not n.right || (quiet && not n.rests))
 
 abbrev pub style : (quiet : Bool) → Step → List ℕ
 style quiet step.Cut = codes ", style=dashed"
@@ -123,24 +129,21 @@ abbrev pub end_name : EdgeEnd → List ℕ
 end_name (target.Node i) = node_name i
 end_name (target.Fault f) = fault_name f
 
-abbrev pub edge_line : ℕ → Edge → List ℕ
-edge_line i e = codes "  " ++ (node_name i ++ (codes " -> " ++ (end_name e.to ++ (codes " [label=" ++ (quoted (choices_label e.choices.items) ++ codes "];\n")))))
-
-abbrev pub step_lines : ℕ → Step → List ℕ
-step_lines i step.Cut = []
-step_lines i step.Crowded = []
-step_lines i (step.Edges es) = flat_map (edge_line i) es.items
-
--- from this number on
-abbrev pub edge_lines : ℕ → List Step → List ℕ
-edge_lines i [] = []
-edge_lines i (step ∷ steps) = step_lines i step ++ edge_lines (suc i) steps
+abbrev pub arrow_line : Arrow → List ℕ
+arrow_line arrow =
+    codes "  " ++ (node_name arrow.from ++ (codes " -> " ++ (end_name arrow.to ++ (codes " [label=" ++ (quoted arrow.label.items ++ (red_mark arrow.is_red ++ codes "];\n"))))))
 
 -- ---- the whole
 
-abbrev pub dot_of : Spec → Graph → List ℕ
-dot_of s graph =
+abbrev pub dot_of : Spec → Graph → List Arrow → List ℕ
+dot_of s graph arrows =
     codes "digraph " ++ (quoted s.name.text ++ (codes " {\n  node [shape=box];\n"
     ++ (node_lines s 0 graph.nodes.items graph.steps.items
     ++ (flat_map (fault_line graph.steps.items) faults
-    ++ (edge_lines 0 graph.steps.items ++ codes "}\n")))))
+    ++ (flat_map arrow_line arrows ++ codes "}\n")))))
+
+-- of the graph of the specification, with this path
+pub record IsDotOf (s : Spec) (turns : ℕ) (path : List (ℕ × ℕ)) (graph : Graph) (dot : List ℕ) : Type 0 where
+  pub arrows : List Arrow
+  pub are : AreArrows s turns path graph.nodes.items graph.steps.items arrows
+  pub is : dot ≡ dot_of s graph arrows

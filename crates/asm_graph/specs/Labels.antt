@@ -1,4 +1,4 @@
--- Definition. What is written in a node and at an edge.
+-- Definition. What is written in a node.
 --     value_text s v, location_text s l   a value, and a location, as the specification s writes
 --                                         them
 --     content_lines s l v                 a line for a location that isn't undef, and else none
@@ -6,8 +6,6 @@
 --     shortened lines                     twelve of them at most, and `..` for the others
 --     node_label s i A step               the number of a node, its state, and whether its step
 --                                         has too many outcomes
---     path_text p, choice_text c          a path, and a choice, as a script writes them
---     choices_label cs                    a line for each choice
 use Rattle.std.specs.Prelude.{ℕ, true, false, List, [], ◌∷◌, ◌++◌, length, take, slice_index_or, nat_le, if◌then◌else◌, codes, decimal}
 use Rattle.std.specs.List.{flat_map, join_by}
 use Rattle.std.specs.Fmt.{signed_decimal}
@@ -18,7 +16,6 @@ use Rattle.asm_state.specs.Signature.{locations}
 use Rattle.asm_syntax.specs.SourceTree.{Spec}
 use Rattle.asm_check.specs.Numbers.{elements_of, functions_of}
 use Rattle.asm_check.specs.Shapes.{shape_of, texts_of}
-use Rattle.asm_explore.specs.declared.outcomes.listed_outcome.Choice.{Choice}
 use Rattle.asm_graph.specs.declared.graph.Step.{Step}
 use Rattle.asm_graph.specs.declared.graph.Step.TheVariants as step
 
@@ -60,17 +57,3 @@ crowd_lines (step.Edges es) = []
 
 abbrev pub node_label : Spec → (number : ℕ) → State → Step → List ℕ
 node_label s i A step = join_by (λ line. line) (codes "\n") (decimal i ∷ (shortened (state_lines s A) ++ crowd_lines step))
-
--- ---- choices
-
--- `-`, or its numbers with a dot between each two
-abbrev pub path_text : List ℕ → List ℕ
-path_text [] = codes "-"
-path_text (k ∷ ks) = join_by decimal (codes ".") (k ∷ ks)
-
--- without the step
-abbrev pub choice_text : Choice → List ℕ
-choice_text c = path_text c.path ++ (codes " " ++ decimal c.number)
-
-abbrev pub choices_label : List Choice → List ℕ
-choices_label cs = join_by choice_text (codes "\n") cs

@@ -1,4 +1,7 @@
 pub mod Graphs
 pub mod Labels
+pub mod Paths
+pub mod PathGraphs
+pub mod Arrows
 pub mod Dot
 pub mod code

@@ -1,2 +1,4 @@
 -- Bridge to the code. What connects the definitions of this crate to its code.
+pub mod EdgeMarks
 pub mod GraphSoFar
+pub mod WaySoFar

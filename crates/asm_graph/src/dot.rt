@@ -1,5 +1,5 @@
 //! The text of a graph for Graphviz.
-ghost use Rattle.std.specs.Prelude.{◌≡◌, ◌++◌, length, IfOk, OnOk};
+ghost use Rattle.std.specs.Prelude.{◌≡◌, ◌++◌, ℕ, List, codes, length, IfOk, OnOk};
 ghost use Rattle.std.specs.String.{string_bytes};
 ghost use Rattle.std.specs.List.{flat_map, list_any};
 ghost use Rattle.asm_state.specs.Signature.{count_of};
@@ -7,11 +7,15 @@ ghost use Rattle.asm_syntax.specs.code.Views.{spec_of};
 ghost use Rattle.asm_check.specs.Shapes.{shape_of};
 ghost use Rattle.asm_explore.specs.ListElements.{Each};
 ghost use Rattle.asm_graph.specs.Dot as text;
+ghost use Rattle.asm_graph.specs.code.EdgeMarks.{AreMarks};
 ghost use Rattle.asm_graph.specs.declared.graph.Node.{Node};
 
+use crate::arrow::Arrow;
+use crate::arrows::arrows;
+use crate::edge_marks::EdgeMarks;
 use crate::escaped::push_quoted;
 use crate::graph::{Edge, EdgeEnd, Graph, Node, Step, StepFault};
-use crate::labels::{label_of_choices, label_of_node};
+use crate::labels::label_of_node;
 use crate::quiet::is_quiet;
 use asm_check::Checked;
 use std::alloc::{AllocError, Global};
@@ -27,15 +31,22 @@ fn add_first_mark(dot: &mut String, number: usize) -> Result<(), AllocError>
     }
 }
 
-/// Adds that a node is red, if what is to hold doesn't.
-fn add_wrong_mark(dot: &mut String, quiet: bool, node: &Node) -> Result<(), AllocError>
-    ensures { OnOk result (string_bytes dot.new ≡ string_bytes dot.old ++ text.wrong_mark quiet node.now) }
+/// Adds that a node or an edge is red, if it is.
+fn add_red_mark(dot: &mut String, is_red: bool) -> Result<(), AllocError>
+    ensures { OnOk result (string_bytes dot.new ≡ string_bytes dot.old ++ text.red_mark is_red) }
 {
-    if !node.right || quiet && !node.rests {
+    if is_red {
         dot.push_str(", color=red, fontcolor=red")
     } else {
         Ok(())
     }
+}
+
+/// Adds that a node is red, if what is to hold doesn't.
+fn add_wrong_mark(dot: &mut String, quiet: bool, node: &Node) -> Result<(), AllocError>
+    ensures { OnOk result (string_bytes dot.new ≡ string_bytes dot.old ++ text.wrong_mark quiet node.now) }
+{
+    add_red_mark(dot, !node.right || quiet && !node.rests)
 }
 
 /// Adds that a node is grey, if it is quiet, or has a dashed border, if no edges are shown.
@@ -176,61 +187,47 @@ fn add_end(alloc: Global, dot: &mut String, to: EdgeEnd) -> Result<(), AllocErro
     }
 }
 
-/// Adds the line of an edge.
-fn add_edge(alloc: Global, dot: &mut String, number: usize, edge: &Edge) -> Result<(), AllocError>
-    ensures { OnOk result (string_bytes dot.new ≡ string_bytes dot.old ++ text.edge_line number edge.now) }
+/// Adds the label of an edge, and what stands behind it.
+fn add_arrow_label(dot: &mut String, arrow: &Arrow) -> Result<(), AllocError>
+    ensures { OnOk result (string_bytes dot.new ≡ string_bytes dot.old ++ (text.quoted arrow.now.label.items ++ (text.red_mark arrow.now.is_red ++ codes "];\n"))) }
 {
-    let head = format!(in alloc; "  s{number} -> ")?;
-    dot.push_str(head.as_str())?;
-    add_end(alloc, dot, edge.to)?;
-    dot.push_str(" [label=")?;
-    let label = label_of_choices(alloc, edge.choices.as_slice())?;
-    push_quoted(dot, label.as_slice())?;
+    push_quoted(dot, arrow.label.as_slice())?;
+    add_red_mark(dot, arrow.is_red)?;
     dot.push_str("];\n")
 }
 
-/// Adds the lines of edges from a node.
-fn add_edges(
+/// Adds the line of an edge.
+fn add_arrow(alloc: Global, dot: &mut String, arrow: &Arrow) -> Result<(), AllocError>
+    ensures { OnOk result (string_bytes dot.new ≡ string_bytes dot.old ++ text.arrow_line arrow.now) }
+{
+    let number = arrow.from;
+    let head = format!(in alloc; "  s{number} -> ")?;
+    dot.push_str(head.as_str())?;
+    add_end(alloc, dot, arrow.to)?;
+    dot.push_str(" [label=")?;
+    add_arrow_label(dot, arrow)
+}
+
+/// Adds the lines of edges.
+fn add_arrows(alloc: Global, dot: &mut String, arrows: &[Arrow]) -> Result<(), AllocError>
+    ensures { OnOk result (string_bytes dot.new ≡ string_bytes dot.old ++ flat_map text.arrow_line arrows.now) }
+{
+    for arrow in arrows {
+        add_arrow(alloc, dot, arrow)?;
+    }
+    Ok(())
+}
+
+/// The text of a graph whose edges are drawn so.
+fn text_of(
     alloc: Global,
-    dot: &mut String,
-    number: usize,
-    edges: &[Edge],
-) -> Result<(), AllocError>
-    ensures { OnOk result (string_bytes dot.new ≡ string_bytes dot.old ++ flat_map (text.edge_line number) edges.now) }
-{
-    for edge in edges {
-        add_edge(alloc, dot, number, edge)?;
-    }
-    Ok(())
-}
-
-/// Adds the lines of the edges from a node, if they are shown.
-fn add_step(alloc: Global, dot: &mut String, number: usize, step: &Step) -> Result<(), AllocError>
-    ensures { OnOk result (string_bytes dot.new ≡ string_bytes dot.old ++ text.step_lines number step.now) }
-{
-    match step {
-        Step::Edges(edges) => add_edges(alloc, dot, number, edges.as_slice()),
-        Step::Cut | Step::Crowded => Ok(()),
-    }
-}
-
-/// Adds the lines of the edges from all nodes.
-fn add_steps(alloc: Global, dot: &mut String, steps: &[Step]) -> Result<(), AllocError>
-    ensures { OnOk result (string_bytes dot.new ≡ string_bytes dot.old ++ text.edge_lines 0 steps.now) }
-{
-    for number in 0..steps.len() {
-        add_step(alloc, dot, number, &steps[number])?;
-    }
-    Ok(())
-}
-
-/// The text of a graph of a specification, for Graphviz: a line for each node, in order, then one
-/// for each fault that some edge has, and then one for each edge, in order. Its last line alone is
-/// `}`, so that one that is cut off is seen to be.
-pub fn dot_text(alloc: Global, checked: &Checked, graph: &Graph) -> Result<String, AllocError>
+    checked: &Checked,
+    graph: &Graph,
+    arrows: &[Arrow],
+) -> Result<String, AllocError>
     requires whole { Each (λ (n : Node). length n.state ≡ count_of (shape_of (spec_of checked.now.spec))) graph.now.nodes.items }
     requires paired { length graph.now.steps.items ≡ length graph.now.nodes.items }
-    ensures { IfOk result (λ dot. string_bytes dot ≡ text.dot_of (spec_of checked.now.spec) graph.now) }
+    ensures { IfOk result (λ dot. string_bytes dot ≡ text.dot_of (spec_of checked.now.spec) graph.now arrows.now) }
 {
     let mut dot = String::from_str(alloc, "digraph ")?;
     push_quoted(&mut dot, checked.spec.name.text.as_bytes())?;
@@ -238,7 +235,27 @@ pub fn dot_text(alloc: Global, checked: &Checked, graph: &Graph) -> Result<Strin
     let (nodes, steps) = (graph.nodes.as_slice(), graph.steps.as_slice());
     add_nodes(alloc, &mut dot, checked, nodes, steps)?;
     add_faults(&mut dot, steps)?;
-    add_steps(alloc, &mut dot, steps)?;
+    add_arrows(alloc, &mut dot, arrows)?;
     dot.push_str("}\n")?;
+    Ok(dot)
+}
+
+/// The text of a graph of a specification, for Graphviz: a line for each node, in order, then one
+/// for each fault that some edge has, and then one for each edge, in order, with the names of the
+/// specification's text. Edges that are marked are red. Its last line alone is `}`, so that one that
+/// is cut off is seen to be.
+pub fn dot_text(
+    alloc: Global,
+    checked: &Checked,
+    turns: u32,
+    graph: &Graph,
+    marks: &EdgeMarks,
+) -> Result<String, AllocError>
+    requires whole { Each (λ (n : Node). length n.state ≡ count_of (shape_of (spec_of checked.now.spec))) graph.now.nodes.items }
+    requires paired { length graph.now.steps.items ≡ length graph.now.nodes.items }
+    ensures { (path : List (ℕ × ℕ)) → AreMarks path marks.now → IfOk result (λ dot. text.IsDotOf (spec_of checked.now.spec) turns path graph.now (string_bytes dot)) }
+{
+    let arrows = arrows(alloc, checked, turns, graph, marks)?;
+    let dot = text_of(alloc, checked, graph, arrows.as_slice())?;
     Ok(dot)
 }

@@ -38,7 +38,7 @@ fn is_same_value(left: Word, right: Word) -> bool
 }
 
 /// Whether two states have the same contents.
-fn is_same_state(left: &State, right: &State, count: usize) -> bool
+pub(crate) fn is_same_state(left: &State, right: &State, count: usize) -> bool
     requires left { length left.now ≡ count }
     requires right { length right.now ≡ count }
     ensures { IsTrue result ↔ left.now ≡ right.now }

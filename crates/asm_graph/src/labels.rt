@@ -1,16 +1,15 @@
-//! What is in nodes and at edges.
+//! What is in nodes.
 ghost use Rattle.std.specs.Prelude.{◌≡◌, ◌++◌, length, IfOk, OnOk, codes};
 ghost use Rattle.std.specs.List.{flat_map};
 ghost use Rattle.asm_state.specs.Signature.{count_of, state_of};
 ghost use Rattle.asm_syntax.specs.code.Views.{spec_of};
 ghost use Rattle.asm_check.specs.Shapes.{shape_of};
 ghost use Rattle.asm_graph.specs.Graphs.{state_at};
-ghost use Rattle.asm_graph.specs.Labels.{choice_text, choices_label, node_label, path_text, shortened, state_lines};
+ghost use Rattle.asm_graph.specs.Labels.{node_label, shortened, state_lines};
 
 use crate::graph::{Node, Step};
-use crate::location_text::{is_shown, push_content, push_number};
+use crate::location_text::{is_shown, push_content};
 use asm_check::Checked;
-use asm_explore::Choice;
 use asm_state::state::State;
 use std::alloc::{AllocError, Global};
 
@@ -60,45 +59,6 @@ pub(crate) fn label_of_node(
     match step {
         Step::Crowded => label.extend_from_slice(b"\ntoo many outcomes")?,
         Step::Cut | Step::Edges(_) => {}
-    }
-    Ok(label)
-}
-
-/// Adds a path, as a script writes it.
-fn push_path(alloc: Global, label: &mut Vec<u8>, path: &[u64]) -> Result<(), AllocError>
-    ensures { OnOk result (label.new.items ≡ label.old.items ++ path_text path.now) }
-{
-    if path.is_empty() {
-        return label.extend_from_slice(b"-");
-    }
-    let mut before: &[u8] = b"";
-    for number in path {
-        label.extend_from_slice(before)?;
-        push_number(alloc, label, *number)?;
-        before = b".";
-    }
-    Ok(())
-}
-
-/// Adds a choice: its path, and the number of the candidate.
-fn push_choice(alloc: Global, label: &mut Vec<u8>, choice: &Choice) -> Result<(), AllocError>
-    ensures { OnOk result (label.new.items ≡ label.old.items ++ choice_text choice.now) }
-{
-    push_path(alloc, label, choice.path.as_slice())?;
-    label.extend_from_slice(b" ")?;
-    push_number(alloc, label, choice.number)
-}
-
-/// What is at an edge: its choices, each in a line of its own.
-pub(crate) fn label_of_choices(alloc: Global, choices: &[Choice]) -> Result<Vec<u8>, AllocError>
-    ensures { IfOk result (λ label. label.items ≡ choices_label choices.now) }
-{
-    let mut label = Vec::new(alloc);
-    let mut before: &[u8] = b"";
-    for choice in choices {
-        label.extend_from_slice(before)?;
-        push_choice(alloc, &mut label, choice)?;
-        before = b"\n";
     }
     Ok(label)
 }

@@ -1,6 +1,9 @@
 //! Laws of graphs.
+ghost use Rattle.asm_graph.specs.Arrows.{AlongLaw};
 ghost use Rattle.asm_graph.specs.Dot.{QuotedLaw};
 ghost use Rattle.asm_graph.specs.Graphs.{QuietLaw};
+
+use asm_explore::laws::script_law;
 
 /// If each edge from a node leads back to it, its state is quiet: no step changes it, whatever
 /// is chosen.
@@ -12,3 +15,10 @@ pub fn quiet_law()
 pub fn quoted_law()
     ensures { QuotedLaw }
 {}
+
+/// The step in which what is written at an edge is asked leads where the edge does.
+pub fn along_law()
+    ensures { AlongLaw }
+{
+    script_law();
+}

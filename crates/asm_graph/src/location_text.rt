@@ -16,16 +16,8 @@ use asm_state::value::Value;
 use asm_state::word::Word;
 use std::alloc::{AllocError, Global};
 
-/// Adds a number.
-pub(crate) fn push_number(alloc: Global, label: &mut Vec<u8>, number: u64) -> Result<(), AllocError>
-    ensures { OnOk result (label.new.items ≡ label.old.items ++ decimal number) }
-{
-    let digits = format!(in alloc; "{number}")?;
-    label.extend_from_slice(digits.as_bytes())
-}
-
 /// Adds a value.
-fn push_value(
+pub(crate) fn push_value(
     alloc: Global,
     label: &mut Vec<u8>,
     checked: &Checked,

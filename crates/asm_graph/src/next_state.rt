@@ -15,7 +15,7 @@ use asm_updates::fault::Fault;
 use std::alloc::{AllocError, Global};
 
 /// The kind of a set's fault.
-fn kind_of(fault: Fault) -> StepFault
+pub(crate) fn kind_of(fault: Fault) -> StepFault
     ensures { (shape : Shape) → IsKind result (fault_of shape fault) }
 {
     match fault {

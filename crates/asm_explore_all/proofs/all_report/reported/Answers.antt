@@ -1,6 +1,9 @@
 use Rattle.std.proofs.Common.{◌++◌, inl}
 use Rattle.std.specs.Prelude.{option_map}
 use Rattle.std.proofs.lemmas.Result.{err_from_is_err_and}
+use Rattle.asm_meaning.specs.Declarations.{specification_of}
+use Rattle.asm_explore.specs.Conditions.{condition_holds}
+use Rattle.asm_explore.specs.TooManyOutcomes.{IsCrowded}
 use Rattle.asm_explore_all.specs.AllFacts.{quiet_files}
 use Rattle.asm_explore_all.specs.AskedQuestions.{IsExplored}
 use Rattle.asm_explore_all.specs.code.CodedQuestions.{plain}
@@ -8,7 +11,16 @@ use Rattle.asm_explore_all.specs.code.GraphFiles.{graph_lines}
 use Rattle.asm_explore_all.proofs.GrowingFiles.{makes_both, makes_none}
 use Rattle.asm_explore_all.proofs.LeftFiles.{files_of, of_graph, of_printing, of_script}
 use Rattle.asm_explore_all.proofs.PlainQuestions.{asked_plain}
+use Rattle.asm_explore_all.proofs.DrawnFiles.{spelled_in}
 use Rattle.asm_explore_all.proofs.all_report.reported.Goals as goal
+
+pub draw-requires : goal.draw-requires
+draw-requires g c =
+    let q = plain c.args.asked.now in
+    let s = specification_of q.spec in
+    let claims = c.in_ok-answered.ensures in
+    spelled_in s q.turns (IsCrowded s q.turns q.outcomes) q.steps q.states (condition_holds q.spec q.always) (condition_holds q.spec q.when_quiet) (condition_holds q.spec q.within) claims.reached
+    c.in_ok-answered.answered.finding claims.found
 
 pub returns-in_err-answered-clause-explained : goal.returns-in_err-answered-clause-explained
 returns-in_err-answered-clause-explained g c =

@@ -1,4 +1,4 @@
-use Rattle.std.proofs.Common.{◌≡◌, ◌∙◌, ◌<◌, ◌≤◌, Bool, false, ℕ, not, ap, arith, length, get_or}
+use Rattle.std.proofs.Common.{◌≡◌, ◌∙◌, ◌<◌, ◌≤◌, Bool, ℕ, not, ap, arith, length}
 use Rattle.std.proofs.lemmas.List.{length-set}
 use Rattle.asm_state.specs.Operation.{is_same}
 use Rattle.asm_state.specs.Signature.{location_at, state_of}

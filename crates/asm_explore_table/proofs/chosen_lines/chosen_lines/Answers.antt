@@ -1,7 +1,6 @@
-use Rattle.std.proofs.Common.{◌≡◌, ◌∙◌, [], List, Vec, Global, ap, map, subst, ℕ}
+use Rattle.std.proofs.Common.{◌∙◌, [], ap, map}
 use Rattle.std.proofs.lemmas.Result.{IfOk-weaker}
 use Rattle.asm_syntax.specs.code.Views.{spec_of}
-use Rattle.asm_explore.specs.RunChoices.{asked_said}
 use Rattle.asm_explore_texts.specs.Comments.{lines_of}
 use Rattle.asm_explore_table.specs.ChosenTexts.{pieces, wrapped}
 use Rattle.asm_explore_table.specs.code.ChoiceTexts.{text_said}

@@ -1,4 +1,4 @@
-use Rattle.std.proofs.Common.{arith, length, sym}
+use Rattle.std.proofs.Common.{arith, sym}
 use Rattle.std.proofs.lemmas.List.{length-take-le, take_all}
 use Rattle.asm_explore_table.proofs.columns.front.Goals as goal
 

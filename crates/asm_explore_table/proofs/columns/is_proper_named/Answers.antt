@@ -1,4 +1,4 @@
-use Rattle.std.proofs.Common.{◌≡◌, ◌∙◌, ◌||◌, ◌++◌, Bool, Bor, List, ℕ, ap, false, sym, true}
+use Rattle.std.proofs.Common.{◌∙◌, ◌||◌, ◌++◌, ap, false, sym, true}
 use Rattle.std.specs.List.{list_any}
 use Rattle.std.specs.Str.{bytes_eq}
 use Rattle.asm_state.specs.Location.{Proper}

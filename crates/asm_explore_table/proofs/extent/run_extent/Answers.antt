@@ -1,4 +1,4 @@
-use Rattle.std.proofs.Common.{◌≡◌, ◌∙◌, ◌+◌, ℕ, List, Option, None, Some, subst, sym}
+use Rattle.std.proofs.Common.{◌≡◌, ◌∙◌, ◌+◌, ℕ, List, Option, subst, sym}
 use Rattle.std.specs.Prelude.{IfSome}
 use Rattle.asm_state.specs.Signature.{Shape, initial_state, location_at, state_of}
 use Rattle.asm_state.specs.code.Contents.{IsStateOf}

@@ -1,4 +1,4 @@
-use Rattle.std.proofs.Common.{◌≡◌, ◌<◌, ◌++◌, ℕ, List, false}
+use Rattle.std.proofs.Common.{◌≡◌, ◌<◌, ℕ, false}
 use Rattle.std.specs.Prelude.{◌||◌, slice_index_or}
 use Rattle.asm_state.specs.Signature.{count_of, location_at}
 use Rattle.asm_state.specs.code.Contents.{IsStateOf}

@@ -1,4 +1,4 @@
-use Rattle.std.proofs.Common.{◌∙◌, ◌++◌, ◌∷◌, [], ap}
+use Rattle.std.proofs.Common.{◌∙◌}
 use Rattle.asm_explore_table.proofs.BlockLists.{marked_alike, numbered_more}
 use Rattle.asm_explore_table.proofs.layout.blocks.Goals as goal
 

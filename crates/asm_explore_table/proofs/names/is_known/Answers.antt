@@ -1,6 +1,5 @@
-use Rattle.std.proofs.Common.{◌≡◌, ◌∙◌, ◌<◌, ◌∷◌, [], ℕ, Bool, ap, false, subst, sym, true}
+use Rattle.std.proofs.Common.{◌≡◌, ◌∙◌, ◌<◌, ◌∷◌, [], Bool, ap, false, subst, sym, true}
 use Rattle.std.specs.Prelude.{◌&&◌, ◌||◌}
-use Rattle.std.specs.List.{list_any, range_with_len}
 use Rattle.asm_state.specs.Location.{Location}
 use Rattle.asm_state.specs.Signature.{Shape, count_of, location_at}
 use Rattle.asm_state.specs.Updates.{is_proper}

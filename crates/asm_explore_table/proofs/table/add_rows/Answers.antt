@@ -5,7 +5,7 @@ use Rattle.asm_state.specs.code.Contents.{IsStateOf}
 use Rattle.asm_state.specs.declared.value.Value.{Value}
 use Rattle.asm_syntax.specs.code.Views.{spec_of}
 use Rattle.asm_step.specs.code.Steps.{shape_in, specification_in}
-use Rattle.asm_explore_table.specs.Rows.{row_of, rows_of}
+use Rattle.asm_explore_table.specs.Rows.{row_of}
 use Rattle.asm_explore_table.specs.code.StepsMade.{rest_rows, row_said, situation}
 use Rattle.asm_explore_table.proofs.RunRows.{rows_begin, rows_end, rows_on}
 use Rattle.asm_explore_table.proofs.TableLines.{row_last, row_next, rows_first}

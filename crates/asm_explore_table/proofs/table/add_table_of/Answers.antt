@@ -1,15 +1,14 @@
-use Rattle.std.proofs.Common.{◌≡◌, ◌∙◌, ◌-◌, ◌<◌, ◌++◌, ◌∷◌, ℕ, List, ap, arith, length, subst, sym}
+use Rattle.std.proofs.Common.{◌≡◌, ◌∙◌, ◌-◌, ◌<◌, ◌++◌, List, ap, arith, length, subst, sym}
 use Rattle.std.specs.Prelude.{All}
-use Rattle.std.specs.List.{flat_map}
 use Rattle.asm_state.specs.Signature.{count_of}
 use Rattle.asm_syntax.specs.code.Views.{spec_of}
 use Rattle.asm_check.specs.Shapes.{shape_of}
 use Rattle.asm_meaning.specs.Declarations.{specification_of}
 use Rattle.asm_explore_texts.specs.Comments.{comments}
 use Rattle.asm_explore_table.specs.Rows.{rows_of}
-use Rattle.asm_explore_table.specs.Tables.{blocks_lines, columns, more_columns, numbers_in, shown_columns}
+use Rattle.asm_explore_table.specs.Tables.{columns, more_columns, shown_columns}
 use Rattle.asm_explore_table.specs.declared.block.Block.{Block}
-use Rattle.asm_explore_table.specs.code.StepsMade.{AreBlocks, AreWithin, names_said}
+use Rattle.asm_explore_table.specs.code.StepsMade.{AreWithin, names_said}
 use Rattle.asm_explore_table.proofs.MadeTables.{all_shown, blocks_within, columns_known, fewer_shown, table_made}
 use Rattle.asm_explore_table.proofs.TableLines.{ok_then}
 use Rattle.asm_explore_table.proofs.table.add_table_of.Goals as goal

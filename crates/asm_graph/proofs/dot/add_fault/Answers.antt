@@ -1,7 +1,7 @@
-use Rattle.std.proofs.Common.{◌≡◌, ◌++◌, ◌∙◌, ap, sym}
+use Rattle.std.proofs.Common.{◌++◌, ◌∙◌, ap, sym}
 use Rattle.std.specs.Prelude.{codes}
 use Rattle.std.specs.String.{string_bytes}
-use Rattle.asm_graph.specs.Dot.{fault_line, fault_name}
+use Rattle.asm_graph.specs.Dot.{fault_line}
 use Rattle.asm_graph.proofs.Texts.{fault_shown, pushed}
 use Rattle.asm_graph.proofs.dot.add_fault.Goals as goal
 

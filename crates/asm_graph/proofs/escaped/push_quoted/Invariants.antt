@@ -1,5 +1,4 @@
 use Rattle.std.proofs.Common.{◌≡◌, ◌++◌, take}
-use Rattle.std.specs.Prelude.{codes}
 use Rattle.std.specs.String.{string_bytes}
 use Rattle.asm_graph.specs.Dot.{escaped}
 use Rattle.asm_graph.proofs.escaped.push_quoted.Given as goal

@@ -1,0 +1,7 @@
+use Rattle.std.proofs.Common.{◌≡◌, take}
+use Rattle.asm_explore.specs.RunChoices.{choices_made}
+use Rattle.asm_graph.proofs.path_graph.choices_in.Given as goal
+
+-- the choices so far
+abbrev pub invariant-loop-k : goal.invariant-loop-k
+invariant-loop-k l = l.choices.items ≡ choices_made (take l.k l.asked)
