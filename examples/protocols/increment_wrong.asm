@@ -1,19 +1,19 @@
 CoreASM IncrementWrong
 init Step
 
-// Three processes each add 1 to a shared total, done wrong: each reads the total in one step, and
-// sets it in a later one. What others add in between is lost.
+// Two processes each add 1 to a shared total, done wrong: each reads the total in one step, and
+// sets it in a later one. What the other one adds in between is lost.
 
 enum Stage = { reading, writing, done }
-universe Process = 1 .. 3
+universe Process = 1 .. 2
 
 function controlled total : -> NUMBER initially 0
 function controlled stage : Process -> Stage initially reading
-// What a process has read.
+// What a process has read, while it is writing.
 function controlled copy : Process -> NUMBER
 
 derived isDone = (forall p in Process holds stage(p) = done)
-derived isSafe = not isDone or total = 3
+derived isSafe = not isDone or total = 2
 
 rule Step = choose p in Process with stage(p) != done do Move(p) endchoose
 
@@ -23,4 +23,5 @@ rule Move(p) = if stage(p) = reading then par
 endpar else par
   total := copy(p) + 1
   stage(p) := done
+  copy(p) := undef
 endpar endif
