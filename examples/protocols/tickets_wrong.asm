@@ -13,10 +13,11 @@ function controlled stage : -> Stage initially starting
 function controlled next : -> NUMBER
 // On the disk: the last number that is in use.
 function controlled last : -> NUMBER initially 0
-// How often a ticket was issued.
-function controlled issued : Ticket -> NUMBER initially 0
+// Which tickets were issued, and whether one was issued twice. Only the condition reads these.
+function controlled isIssued : Ticket -> BOOLEAN initially false
+function controlled isRepeated : -> BOOLEAN initially false
 
-derived isSafe = (forall t in Ticket holds issued(t) <= 1)
+derived isSafe = not isRepeated
 
 rule Step = choose e in Event do
   if e = crash then par stage := starting next := undef endpar else Move endif
@@ -28,7 +29,7 @@ rule Move = par
     stage := resting
   endpar endif
   if stage = resting and next <= 3 then par
-    issued(next) := issued(next) + 1
+    Issue
     stage := issuing
   endpar endif
   if stage = issuing then par
@@ -36,4 +37,9 @@ rule Move = par
     next := next + 1
     stage := resting
   endpar endif
+endpar
+
+rule Issue = par
+  if isIssued(next) then isRepeated := true endif
+  isIssued(next) := true
 endpar
