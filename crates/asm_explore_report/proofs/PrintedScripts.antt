@@ -1,13 +1,11 @@
 -- Free. What is printed, and what it spells.
 --     named_comments    a part has no comments just when it has no lines
---     with_lines        a table that is given as comments, between others
 --     printed_says      comments before a script, unless even the first one alone is too many
-use Rattle.std.proofs.Common.{◌≡◌, ◌∙◌, ℕ, List, [], ◌∷◌, ◌++◌, inl, inr, refl, sym, subst, ap, append_assoc}
+use Rattle.std.proofs.Common.{◌≡◌, ℕ, List, [], ◌∷◌, ◌++◌, inl, inr, refl, sym, subst}
 use Rattle.std.specs.Prelude.{◌⊎◌, ◌<◌, length}
-use Rattle.std.proofs.lemmas.Grind.{flat_map-append}
 use Rattle.asm_reader.specs.ScriptLines.{Script}
 use Rattle.asm_reader.specs.ScriptText.{IsScript, max_script}
-use Rattle.asm_explore_texts.specs.Comments.{comment, comments}
+use Rattle.asm_explore_texts.specs.Comments.{comments}
 use Rattle.asm_explore_report.specs.Printed.{IsReportText, behind_first, left_out, named, no_comments, no_table, no_trace}
 use Rattle.asm_explore_report.proofs.SkippedLines.{comments_say}
 
@@ -15,15 +13,6 @@ pub named_comments : (name : List ℕ) (lines : List (List ℕ)) → named name 
 named_comments name [] = refl
 named_comments name ([] ∷ lines) = refl
 named_comments name ((b ∷ line) ∷ lines) = refl
-
-pub with_lines : (first : List ℕ) (facts lines more : List (List ℕ)) (script t0 t1 t2 t3 : List ℕ) → t0 ≡ comments (first ∷ facts) → t1 ≡ t0 ++ comments lines → t2 ≡ t1 ++ comments more
-    → t3 ≡ t2 ++ script → t3 ≡ behind_first first (facts ++ (lines ++ more)) script
-with_lines first facts lines more script t0 t1 t2 t3 a b c d =
-    let front = comments (first ∷ facts) in
-    let apart : comments (first ∷ (facts ++ (lines ++ more))) ≡ front ++ (comments lines ++ comments more) =
-    flat_map-append comment (first ∷ facts) (lines ++ more) ∙ ap (λ t. front ++ t) (flat_map-append comment lines more) in
-    d ∙ ap (λ t. t ++ script)
-    (c ∙ ap (λ t. t ++ comments more) (b ∙ ap (λ t. t ++ comments lines) a) ∙ append_assoc front (comments lines) (comments more) ∙ sym apart)
 
 pub printed_says : (first : List ℕ) (facts table trace : List (List ℕ)) (bare text : List ℕ) → IsReportText first facts table trace bare text → (script : Script) → IsScript bare script
     → IsScript text script ⊎ (max_script < length (behind_first first (left_out (no_comments first facts table trace bare)) bare))
