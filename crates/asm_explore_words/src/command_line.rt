@@ -15,10 +15,11 @@ use crate::commands::{Argument, described, with_arguments};
 use crate::help;
 use crate::number_options::{OUTCOMES, RUN_STEPS, STATES, STEPS, TURNS, WORKERS};
 use crate::random_words::{random, random_settings};
-use crate::settings::{RunQuestion, RunSettings, Settings, Task, WordFault, apart, run_apart};
+use crate::settings::{RunQuestion, RunSettings, Settings, Task, WordFault, at_odds, run_at_odds};
 use crate::show_words::{show, show_settings};
 use crate::text_options::{
-    ALWAYS, ALWAYS_FILE, DEADLOCK_UNLESS, DOT, DOT_ONLY, PROGRESS, QUIET, TABLE, TRACE, WITHIN,
+    ALWAYS, ALWAYS_FILE, DEADLOCK_UNLESS, DOT, DOT_ONLY, PROGRESS, QUIET, SCRIPT, TABLE, TRACE,
+    WITHIN,
 };
 use asm_arguments::numbers::number_of;
 use clap::error::ErrorKind;
@@ -138,25 +139,25 @@ fn all_task<'w, S: AsStr>(alloc: Global, words: &'w [S]) -> Result<Task<'w>, Wor
     ensures refused { IfErr result (IsRefusal (all_refusals (map S.text words.entry.now))) }
 {
     let settings = all_settings(alloc, words)?;
-    if let Some(said) = apart(&settings) {
+    if let Some(said) = at_odds(&settings) {
         drop(settings);
-        return Err(are_apart(alloc, said));
+        return Err(odds_fault(alloc, said));
     }
     Ok(Task::All(settings))
 }
 
-/// The fault of words that don't go together, of which this is said.
-fn are_apart(alloc: Global, said: &'static str) -> WordFault
+/// The fault of words that are at odds, of which this is said.
+fn odds_fault(alloc: Global, said: &'static str) -> WordFault
     ensures { IsRefusal (ArgumentConflict ∷ []) result }
 {
-    match apart_error(alloc, said) {
+    match odds_error(alloc, said) {
         Ok(error) => error.into(),
         Err(error) => error.into(),
     }
 }
 
 /// This as what is wrong with the words after `all`.
-fn apart_error(alloc: Global, said: &str) -> Result<Error, Error>
+fn odds_error(alloc: Global, said: &str) -> Result<Error, Error>
     ensures conflict { IfOk result (λ error. kind_of error ≡ ArgumentConflict) }
     ensures memory { IfErr result (λ error. kind_of error ≡ OutOfMemory) }
 {
@@ -176,7 +177,7 @@ fn random_task<'w, S: AsStr>(alloc: Global, words: &'w [S]) -> Result<Task<'w>, 
     Ok(Task::Random(settings))
 }
 
-/// The same settings, whether or not they go together.
+/// The same settings, whether or not they are at odds.
 fn all_settings<'w, S: AsStr>(alloc: Global, words: &'w [S]) -> Result<Settings<'w>, Error>
     ensures in_range { IfOk result (λ s. IsTrue (are_in_range s)) }
     ensures taken { IfOk result (λ _. refusals (map S.text words.entry.now) ≡ []) }
@@ -247,15 +248,15 @@ fn run_settings<'w, S: AsStr>(
     ensures refused { IfErr result (IsRefusal (one_run_refusals asked.draws (map S.text words.entry.now))) }
 {
     let question = run_given(alloc, asked, words)?;
-    if let Some(said) = run_apart(question.run) {
+    if let Some(said) = run_at_odds(question.run) {
         drop(question);
-        return Err(run_error(alloc, asked, said)?.into());
+        return Err(run_odds_error(alloc, asked, said)?.into());
     }
     Ok(question)
 }
 
 /// This as what is wrong with the words after such a command.
-fn run_error(alloc: Global, asked: RunCommand, said: &str) -> Result<Error, Error>
+fn run_odds_error(alloc: Global, asked: RunCommand, said: &str) -> Result<Error, Error>
     ensures conflict { IfOk result (λ error. kind_of error ≡ ArgumentConflict) }
     ensures memory { IfErr result (λ error. kind_of error ≡ OutOfMemory) }
 {
@@ -265,7 +266,7 @@ fn run_error(alloc: Global, asked: RunCommand, said: &str) -> Result<Error, Erro
     Ok(error?)
 }
 
-/// The same, whether or not the settings go together.
+/// The same, whether or not the settings are at odds.
 fn run_given<'w, S: AsStr>(
     alloc: Global,
     asked: RunCommand,
@@ -290,7 +291,7 @@ fn run_read<'w>(
 ) -> Result<RunQuestion<'w>, AllocError>
     requires spec { is_some (first_value (found_of given.now) (codes "spec")) ≡ true }
     requires numbers { HaveNumbers (found_of given.now) run_number_options }
-    requires draw { IsTrue draws → MayHaveUnsigned (found_of given.now) (codes "draw") }
+    requires draw { draws ≡ true → MayHaveUnsigned (found_of given.now) (codes "draw") }
     ensures in_range { IfOk result (λ question. IsTrue (are_run_in_range question.run)) }
     ensures read { IfOk result (IsQuestionRead draws (rows_of (found_of given.now))) }
 {
