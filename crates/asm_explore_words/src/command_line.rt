@@ -8,7 +8,7 @@ ghost use Rattle.clap.specs.declared.error.kind.ErrorKind.TheVariants.{ArgumentC
 ghost use Rattle.asm_arguments.specs.Numbers.{HaveNumbers};
 ghost use Rattle.asm_explore_words.specs.CommandLine as line;
 ghost use Rattle.asm_explore_words.specs.CommandLine.{command_refusals, named, random_refusals, refusals, run_refusals};
-ghost use Rattle.asm_explore_words.specs.WordsSaid.{AreParsed, AreRead, AreRunParsed, AreRunSaid, AreSaidBehind, IsQuestionRead, IsRefusal, MayHaveUnsigned, all_refusals, all_rows, are_in_range, are_run_in_range, is_task_in_range, number_options, one_run_refusals, run_number_options, run_rows, task_refusals};
+ghost use Rattle.asm_explore_words.specs.WordsSaid.{AreParsed, AreRead, AreRunParsed, AreRunSaid, AreSaidBehind, IsQuestionRead, IsRefusal, IsSeedOf, MayHaveUnsigned, all_refusals, all_rows, are_in_range, are_run_in_range, is_task_in_range, number_options, one_run_refusals, run_number_options, run_rows, task_refusals};
 
 use crate::arguments::{is_set, texts_of, unsigned_if};
 use crate::commands::{Argument, described, with_arguments};
@@ -295,18 +295,29 @@ fn run_read<'w>(
     ensures in_range { IfOk result (λ question. IsTrue (are_run_in_range question.run)) }
     ensures read { IfOk result (IsQuestionRead draws (rows_of (found_of given.now))) }
 {
-    let draw = if draws { unsigned_if(given, "draw") } else { None };
     Ok(RunQuestion {
         run: RunSettings {
             spec: given.get_str("spec").unwrap(),
             steps: number_of(given, RUN_STEPS),
             turns: number_of(given, TURNS),
             script: given.get_str("script"),
-            draw,
+            draw: seed_of(given, draws),
         },
         always: texts_of(alloc, given, "always")?,
         always_files: texts_of(alloc, given, "always-file")?,
     })
+}
+
+/// The seed by which choices are drawn, if they may be drawn.
+fn seed_of(given: &ArgMatches<'_>, draws: bool) -> Option<u64>
+    requires { draws ≡ true → MayHaveUnsigned (found_of given.now) (codes "draw") }
+    ensures { IsSeedOf draws (rows_of (found_of given.now)) result }
+{
+    if draws {
+        unsigned_if(given, "draw")
+    } else {
+        None
+    }
 }
 
 /// What the words after such a command give.

@@ -182,7 +182,7 @@ fn has_no_graph(names: &[&str], dot: Option<&str>) -> bool
 
 /// What is to be said of settings of a run that are at odds.
 pub(crate) fn run_at_odds(run: RunSettings<'_>) -> Option<&'static str>
-    ensures { is_some result ≡ (reads_input_twice run || chooses_twice run) }
+    ensures { is_some result ≡ (reads_input_twice run.entry || chooses_twice run.entry) }
 {
     if is_standard_input(Some(run.spec)) && is_standard_input(run.script) {
         return Some(help::ONE_INPUT);
