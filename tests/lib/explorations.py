@@ -22,6 +22,22 @@ class Exploration(NamedTuple):
         return EXAMPLES / f"{self.name}.explored"
 
 
+class NamedGraph(NamedTuple):
+    """The graph of an exploration whose nodes show what these names name."""
+
+    name: str
+    exploration: Exploration
+    names: list
+
+    def file(self):
+        """The file that has it."""
+        return EXAMPLES / f"{self.name}.dot"
+
+    def words(self):
+        """The words that ask for what nodes show."""
+        return [word for name in self.names for word in ("--dot-only", name)]
+
+
 def of(name, *words, text=None, status=0, is_by_hand=False):
     return Exploration(name, f"{text or name}.asm", list(words), status, is_by_hand)
 
@@ -95,4 +111,16 @@ EXPLORATIONS = [
     protocol("tickets_wrong", status=1),
     protocol("fischer", "--deadlock-unless", "false"),
     protocol("fischer_wrong", status=1),
+]
+
+
+def named(name, *names):
+    return NamedGraph(f"{name}_named", next(it for it in EXPLORATIONS if it.name == name), list(names))
+
+
+# Functions and locations: some are undef in most states, some stand behind the twelve that are shown without names, and some are more than twelve.
+NAMED_GRAPHS = [
+    named("mutex_wrong", "flag", "stage(1)"),
+    named("alternating", "ack", "received(2)", "next", "received(2)"),
+    named("raft_wrong", "hasVote(2, 3)", "leads", "term"),
 ]

@@ -52,19 +52,19 @@ module _ (specification : Specification) (turns : ℕ) (crowds : State → RuleO
 
 -- ---- files
 
-module _ (asked : AskedQuestion) where
-  pub whole_drawn : (run : Option Drawn) (name text : List ℕ) → IsGraphText asked run text → IsDrawn asked run (Some name) [] ((name, text) ∷ [])
+module _ (asked : AskedQuestion) (names : List (List ℕ)) where
+  pub whole_drawn : (run : Option Drawn) (name text : List ℕ) → IsGraphText asked names run text → IsDrawn asked names run (Some name) [] ((name, text) ∷ [])
   whole_drawn run name text is = inl (text, is, refl, refl)
 
-  pub run_drawn : (run : Option Drawn) (name text : List ℕ) → HasTooMany asked → IsRunOf asked run text → IsDrawn asked run (Some name) (run_note ∷ []) ((name, text) ∷ [])
+  pub run_drawn : (run : Option Drawn) (name text : List ℕ) → HasTooMany asked → IsRunOf asked names run text → IsDrawn asked names run (Some name) (run_note ∷ []) ((name, text) ∷ [])
   run_drawn None name text many is = absurd is
   run_drawn (Some run) name text many is = inr (many, (text, is, refl, refl))
 
-  pub none_drawn : (run : Option Drawn) (name : List ℕ) → HasTooMany asked → run ≡ None → IsDrawn asked run (Some name) (graph_note ∷ []) []
-  none_drawn run name many is = subst (λ r. IsDrawn asked r (Some name) (graph_note ∷ []) []) (sym is) (inr (many, (refl, refl)))
+  pub none_drawn : (run : Option Drawn) (name : List ℕ) → HasTooMany asked → run ≡ None → IsDrawn asked names run (Some name) (graph_note ∷ []) []
+  none_drawn run name many is = subst (λ r. IsDrawn asked names r (Some name) (graph_note ∷ []) []) (sym is) (inr (many, (refl, refl)))
 
-  pub explained_text : (run : Option Drawn) (name text : List ℕ) (lines : List (List ℕ)) (old new : Option (List MadeFile)) → IsDrawn asked run (Some name) lines ((name, text) ∷ []) → (why : Fault)
-      → ExplainsWriting name text old new why → ExplainsDrawing asked run (Some name) old new why
+  pub explained_text : (run : Option Drawn) (name text : List ℕ) (lines : List (List ℕ)) (old new : Option (List MadeFile)) → IsDrawn asked names run (Some name) lines ((name, text) ∷ []) → (why : Fault)
+      → ExplainsWriting name text old new why → ExplainsDrawing asked names run (Some name) old new why
   explained_text run name text lines old new is (fault.Graph file) h = (ap Some (sym h.0), (lines, (name, text) ∷ [], is, h.1))
   explained_text run name text lines old new is (fault.Text refused) h = absurd h
   explained_text run name text lines old new is (fault.QuietScript file) h = absurd h

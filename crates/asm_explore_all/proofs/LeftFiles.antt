@@ -18,7 +18,7 @@ use Rattle.asm_explore_words.specs.declared.settings.Settings.{Settings}
 use Rattle.asm_explore_report.specs.Refusals.{IsQuestionRefused}
 use Rattle.asm_explore_all.specs.AllFacts.{ExplainsScript, quiet_files}
 use Rattle.asm_explore_all.specs.DrawnGraphs.{ExplainsDrawing, IsDrawn, drawn_in}
-use Rattle.asm_explore_all.specs.AllReport.{AreFilesOf, ExplainsAll}
+use Rattle.asm_explore_all.specs.AllReport.{AreFilesOf, ExplainsAll, names_drawn}
 use Rattle.asm_explore_all.specs.AskedQuestions.{IsExplored}
 use Rattle.asm_explore_all.specs.MadeFiles.{MadeFile, Makes}
 use Rattle.asm_explore_all.proofs.GrowingFiles.{first_all, makes_both, makes_none, stops_after, stops_more}
@@ -41,11 +41,12 @@ script_name settings = option_map (λ name. name.now) settings.quiet
 abbrev scripts : Settings → ExplorationResult → List MadeFile
 scripts settings answer = quiet_files (script_name settings) answer.first_quiet
 
-module _ (text : List ℕ) (conditions : Conditions) (settings : Settings) (answer : ExplorationResult) (explored : IsExplored text conditions settings answer) where
-  abbrev pub files_of : (graph : List (List ℕ)) (drawn : List MadeFile) → IsDrawn explored.asked (drawn_in answer.finding) (graph_name settings) graph drawn → AreFilesOf text conditions settings (drawn ++ scripts settings answer)
-  files_of graph drawn is = record { answer = answer; explored = explored; graph = graph; drawn = drawn; is_drawn = is; are = refl }
+module _ (text : List ℕ) (conditions : Conditions) (settings : Settings) (answer : ExplorationResult) (explored : IsExplored text conditions settings answer)
+    (known : All (λ name. is_known explored.asked.spec name ≡ true) (names_drawn settings)) where
+  abbrev pub files_of : (graph : List (List ℕ)) (drawn : List MadeFile) → IsDrawn explored.asked (names_drawn settings) (drawn_in answer.finding) (graph_name settings) graph drawn → AreFilesOf text conditions settings (drawn ++ scripts settings answer)
+  files_of graph drawn is = record { answer = answer; explored = explored; known = known; graph = graph; drawn = drawn; is_drawn = is; are = refl }
 
-  pub of_graph : (old new : Option (List MadeFile)) (why : Fault) → ExplainsDrawing explored.asked (drawn_in answer.finding) (graph_name settings) old new why → ExplainsAll text conditions settings old new why
+  pub of_graph : (old new : Option (List MadeFile)) (why : Fault) → ExplainsDrawing explored.asked (names_drawn settings) (drawn_in answer.finding) (graph_name settings) old new why → ExplainsAll text conditions settings old new why
   of_graph old new fault.Memory none = inl none
   of_graph old new (fault.Graph name) (same, (graph, drawn, is, stops)) =
       (same, (drawn ++ scripts settings answer, files_of graph drawn is, stops_more old new name.now drawn (scripts settings answer) stops))
@@ -54,7 +55,7 @@ module _ (text : List ℕ) (conditions : Conditions) (settings : Settings) (answ
   of_graph old new (fault.Name name) h = absurd h
   of_graph old new fault.Unconfirmed h = absurd h
 
-  module _ (old mid new : Option (List MadeFile)) (graph : List (List ℕ)) (drawn : List MadeFile) (is : IsDrawn explored.asked (drawn_in answer.finding) (graph_name settings) graph drawn) (makes : Makes old mid drawn) where
+  module _ (old mid new : Option (List MadeFile)) (graph : List (List ℕ)) (drawn : List MadeFile) (is : IsDrawn explored.asked (names_drawn settings) (drawn_in answer.finding) (graph_name settings) graph drawn) (makes : Makes old mid drawn) where
     pub of_script : (why : Fault) → ExplainsScript (script_name settings) answer.first_quiet mid new why → ExplainsAll text conditions settings old new why
     of_script (fault.QuietScript name) (same, stops) =
         (same, (drawn ++ scripts settings answer, files_of graph drawn is, stops_after old mid new name.now drawn (scripts settings answer) makes stops))

@@ -6,21 +6,24 @@
 --                                   condition isn't true, the others are the facts, and, if they are
 --                                   asked for, the table and the trace of the run that is found; and
 --                                   the script is that of this run
+--     names_drawn settings          the names of what nodes of the graph are to show
 --     AreFilesOf files              the files for what is found of the specification with this text:
 --                                   of the graph of states and of the script to the first quiet
---                                   state
+--                                   state. Each name is known of what nodes are to show
 --     IsReported                    what is printed says what is found, and these files are made
 --     IsReportedBy                  the files that are known to be made grow by these
 --     StopsInFiles                  the files that are known to be made grow by those before the one
 --                                   of this name, which may be cut
 --     MakesFirstFiles               no file is made, or the first of them are
---     ExplainsAll                   why there is no report, and what is made: a text is refused, and
---                                   no file is made; the file of the graph or of the script can't be
---                                   written; memory ran out; or the run that was found isn't
---                                   confirmed, and all files are made
-use Rattle.std.specs.Prelude.{◌≡◌, ◌⊎◌, ℕ, List, [], ◌++◌, Option, Some, option_map, ⊤}
+--     ExplainsAll                   why there is no report, and what is made: a text is refused, or
+--                                   no location has a name of what nodes are to show, nor the
+--                                   function of one, and no file is made; the file of the graph or of
+--                                   the script can't be written; memory ran out; or the run that was
+--                                   found isn't confirmed, and all files are made
+use Rattle.std.specs.Prelude.{◌≡◌, ◌⊎◌, All, ℕ, true, List, [], ◌++◌, map, Option, Some, option_map, ⊤}
 use Rattle.asm_syntax.specs.SourceTree.{Spec, Term}
 use Rattle.asm_meaning.specs.Declarations.{specification_of}
+use Rattle.asm_run.specs.Headline.{IsAccepted}
 use Rattle.asm_explore.specs.declared.exploration_result.ExplorationResult.{ExplorationResult}
 use Rattle.asm_explore.specs.declared.exploration_result.Finding.{Finding}
 use Rattle.asm_explore.specs.declared.exploration_result.Finding.TheVariants as finding
@@ -28,6 +31,7 @@ use Rattle.asm_explore_texts.specs.declared.conditions.Conditions.{Conditions}
 use Rattle.asm_explore_words.specs.declared.fault.Fault.{Fault}
 use Rattle.asm_explore_words.specs.declared.fault.Fault.TheVariants as fault
 use Rattle.asm_explore_words.specs.declared.settings.Settings.{Settings}
+use Rattle.asm_explore_table.specs.Tables.{IsFirstUnknown, is_known}
 use Rattle.asm_explore_report.specs.FaultWords.{BadTells, IsBroken, unwritten_words}
 use Rattle.asm_explore_report.specs.Refusals.{IsQuestionRefused}
 use Rattle.asm_explore_report.specs.declared.report.Report.{Report}
@@ -58,6 +62,9 @@ WordsTell s terms turns (finding.TooManyOutcomes safe_to crowd) words lines = li
 WordsTell s terms turns (finding.NoMemory safe_to) words lines = lines ≡ []
 WordsTell s terms turns (finding.Unwritten unwritten) words lines = (words ≡ unwritten_words) × (lines ≡ [])
 
+abbrev pub names_drawn : Settings → List (List ℕ)
+names_drawn settings = map (λ name. name.now) settings.dot_only.items
+
 module _ (text : List ℕ) (conditions : Conditions) (settings : Settings) where
   pub record IsReport (asked : AskedQuestion) (terms : List Term) (answer : ExplorationResult) (graph : List (List ℕ)) (printed : List ℕ) : Type 0 where
     pub words : List ℕ
@@ -71,10 +78,11 @@ module _ (text : List ℕ) (conditions : Conditions) (settings : Settings) where
   pub record AreFilesOf (files : List MadeFile) : Type 0 where
     pub answer : ExplorationResult
     pub explored : IsExplored text conditions settings answer
+    pub known : All (λ name. is_known explored.asked.spec name ≡ true) (names_drawn settings)
     -- what is said of the graph, and its file
     pub graph : List (List ℕ)
     pub drawn : List MadeFile
-    pub is_drawn : IsDrawn explored.asked (drawn_in answer.finding) (option_map (λ name. name.now) settings.dot) graph drawn
+    pub is_drawn : IsDrawn explored.asked (names_drawn settings) (drawn_in answer.finding) (option_map (λ name. name.now) settings.dot) graph drawn
     pub are : files ≡ drawn ++ quiet_files (option_map (λ name. name.now) settings.quiet) answer.first_quiet
 
   pub record IsReported (report : Report) (files : List MadeFile) : Type 0 where
@@ -97,6 +105,6 @@ module _ (text : List ℕ) (conditions : Conditions) (settings : Settings) where
   ExplainsAll old new (fault.Text refused) = IsQuestionRefused text settings.spec.now conditions refused × Makes old new []
   ExplainsAll old new (fault.Graph name) = (option_map (λ file. file.now) settings.dot ≡ Some name.now) × StopsInFiles old new name.now
   ExplainsAll old new (fault.QuietScript name) = (option_map (λ file. file.now) settings.quiet ≡ Some name.now) × StopsInFiles old new name.now
-  ExplainsAll old new (fault.Name name) = ⊥
+  ExplainsAll old new (fault.Name name) = ((s : Spec) × IsAccepted text s × IsFirstUnknown s (names_drawn settings) name.now) × Makes old new []
   ExplainsAll old new fault.Memory = MakesFirstFiles old new
   ExplainsAll old new fault.Unconfirmed = (files : List MadeFile) × AreFilesOf files × Makes old new files

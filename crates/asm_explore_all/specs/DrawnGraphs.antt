@@ -4,26 +4,31 @@
 --     drawn_in finding              the run for what is found, if a run shows it
 --     IsSpelled, AreSpelled         the text of its script spells one
 --     IsRed run steps path          these are the edges of this run; or none, if there is no run
---     IsRedText asked run graph text     the text of a graph, in which this run is red
---     IsGraphText asked run text     of the graph of the states
---     IsRunText asked run text       of the graph of the run alone
+--     IsRedText asked names run graph text    the text of a graph, in which this run is red. Nodes
+--                                   show what these names name, or all if there are none
+--     IsGraphText asked names run text    of the graph of the states
+--     IsRunText asked names run text    of the graph of the run alone
 --     HasTooMany asked              runs come to more than 2,000 states
---     IsDrawn asked run file lines made    if a graph is asked for by the name of a file, this
---                                   file is made and has its text, and nothing is said; or it has
---                                   more than 2,000 states, and the file has the run alone, if there
---                                   is one, and else no file is made: which of both is said
---     ExplainsDrawing asked run file old new fault
+--     IsDrawn asked names run file lines made    if a graph is asked for by the name of a file,
+--                                   this file is made and has its text, and nothing is said; or it
+--                                   has more than 2,000 states, and the file has the run alone, if
+--                                   there is one, and else no file is made: which of both is said
+--     ExplainsDrawing asked names run file old new fault
 --                                   why the graph isn't drawn: memory ran out, and no file is made;
 --                                   or this file can't be written
+--     ExplainsNames s names fault    why these can't be the names of what nodes show: one isn't
+--                                   known, the first of those; or memory ran out
 use Rattle.std.specs.Prelude.{◌≡◌, ◌⊎◌, ⊤, ℕ, List, [], ◌∷◌, Option, Some, None, option_map, codes}
 use Rattle.asm_reader.specs.ScriptLines.{Script}
 use Rattle.asm_reader.specs.ScriptText.{IsScript}
+use Rattle.asm_syntax.specs.SourceTree.{Spec}
 use Rattle.asm_check.specs.Shapes.{shape_of}
 use Rattle.asm_meaning.specs.Declarations.{specification_of}
 use Rattle.asm_explore.specs.Conditions.{condition_holds}
 use Rattle.asm_explore.specs.TooManyOutcomes.{IsCrowded}
 use Rattle.asm_explore.specs.declared.exploration_result.Finding.{Finding}
 use Rattle.asm_explore.specs.declared.exploration_result.Finding.TheVariants as finding
+use Rattle.asm_explore_table.specs.Tables.{IsFirstUnknown}
 use Rattle.asm_graph.specs.Dot.{IsDotOf}
 use Rattle.asm_graph.specs.Graphs.{AreTooMany, IsGraph}
 use Rattle.asm_graph.specs.PathGraphs.{IsPathGraph}
@@ -73,9 +78,17 @@ graph_note = codes "no graph is written: more than 2000 states"
 abbrev pub HasTooMany : AskedQuestion → Type 0
 HasTooMany asked = AreTooMany (specification_of asked.spec) asked.turns (condition_holds asked.spec asked.within) asked.steps 2000
 
-module _ (asked : AskedQuestion) where
+abbrev pub ExplainsNames : Spec → (names : List (List ℕ)) → Fault → Type 0
+ExplainsNames s names (fault.Name name) = IsFirstUnknown s names name.now
+ExplainsNames s names fault.Memory = ⊤
+ExplainsNames s names (fault.Text refused) = ⊥
+ExplainsNames s names (fault.Graph file) = ⊥
+ExplainsNames s names (fault.QuietScript file) = ⊥
+ExplainsNames s names fault.Unconfirmed = ⊥
+
+module _ (asked : AskedQuestion) (names : List (List ℕ)) where
   abbrev pub IsRedText : Option Drawn → Graph → List ℕ → Type 0
-  IsRedText run graph text = (path : List (ℕ × ℕ)) × IsRed run graph.steps.items path × IsDotOf asked.spec asked.turns path graph text
+  IsRedText run graph text = (path : List (ℕ × ℕ)) × IsRed run graph.steps.items path × IsDotOf asked.spec names asked.turns path graph text
 
   -- it has at most 2,000 states
   abbrev pub IsGraphText : Option Drawn → List ℕ → Type 0

@@ -15,6 +15,7 @@ use crate::facts::{facts, shown_run};
 use crate::files::NewFiles;
 use crate::finding_line::finding_line;
 use crate::graph_file::{GraphFile, draw};
+use crate::known_names::know_names;
 use crate::quiet_file::write_script;
 use asm_explore::{ExplorationResult, Finding, Progress, Watch};
 use asm_explore_report::facts::behind;
@@ -144,8 +145,10 @@ fn reported<'w, R: Threads + Sync, F: NewFiles, W: Watch<Progress>>(
     all_asked_law();
     let workers = workers_of(settings);
     let (checked, question) = (&asked.checked, &asked.question);
+    let names = settings.dot_only.as_slice();
+    know_names(alloc, checked, names)?;
     let answered = explore_all_by(rt, alloc, checked, question, workers, watch)?;
-    let drawing = draw(files, alloc, asked, settings.dot, &answered.finding)?;
+    let drawing = draw(files, alloc, asked, names, settings.dot, &answered.finding)?;
     write_script(files, &answered.first_quiet, settings.quiet)?;
     let text = printed_of(
         rt, alloc, text, asked, conditions, settings, &answered, drawing,

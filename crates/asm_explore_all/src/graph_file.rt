@@ -8,6 +8,7 @@ ghost use Rattle.asm_check.specs.Shapes.{shape_of};
 ghost use Rattle.asm_explore.specs.ListElements.{Each};
 ghost use Rattle.asm_graph.specs.code.EdgeMarks.{AreMarks};
 ghost use Rattle.asm_graph.specs.declared.graph.Node.{Node};
+ghost use Rattle.asm_explore_table.specs.code.StepsMade.{names_said};
 ghost use Rattle.asm_explore_report.specs.ShownRuns.{shown};
 ghost use Rattle.asm_explore_all.specs.DrawnGraphs.{AreSpelled, ExplainsDrawing, IsDrawn, IsRed, IsRedText, IsRunText, IsSpelled, drawn_in};
 ghost use Rattle.asm_explore_all.specs.MadeFiles.{MadeFile, Makes};
@@ -103,38 +104,44 @@ fn marks_of(
             let marks = run_marks(alloc, graph, &script, run.shown.steps)?;
             Ok(marks)
         }
-        None => EdgeMarks::none(alloc, 0),
+        None => Ok(EdgeMarks::none(alloc)),
     }
 }
 
-/// The text of a graph in which this run is red.
+/// The text of a graph in which this run is red, and nodes show what these names name.
 fn text_of(
     alloc: Global,
     asked: &CheckedQuestion,
+    names: &[&str],
     graph: &Graph,
     run: Option<DrawnRun<'_>>,
 ) -> Result<String, AllocError>
     requires whole { Each (λ (n : Node). length n.state ≡ count_of (shape_of (spec_of asked.now.checked.spec))) graph.now.nodes.items }
     requires paired { length graph.now.steps.items ≡ length graph.now.nodes.items }
     requires spelled { AreSpelled (drawn_of run) }
-    ensures { IfOk result (λ text. IsRedText (plain asked.now) (drawn_of run.entry) graph.now (string_bytes text)) }
+    ensures { IfOk result (λ text. IsRedText (plain asked.now) (names_said names.now) (drawn_of run.entry) graph.now (string_bytes text)) }
 {
     let marks = marks_of(alloc, graph, run)?;
     let turns = asked.question.turns;
-    let text = dot_text(alloc, &asked.checked, turns, graph, &marks)?;
+    let text = dot_text(alloc, &asked.checked, names, turns, graph, &marks)?;
     Ok(text)
 }
 
 /// The text of the graph of a run alone.
-fn run_text(alloc: Global, asked: &CheckedQuestion, run: DrawnRun<'_>) -> Result<String, AllocError>
+fn run_text(
+    alloc: Global,
+    asked: &CheckedQuestion,
+    names: &[&str],
+    run: DrawnRun<'_>,
+) -> Result<String, AllocError>
     requires { IsSpelled (drawn run).0 }
-    ensures { IfOk result (λ text. IsRunText (plain asked.now) (drawn run.entry) (string_bytes text)) }
+    ensures { IfOk result (λ text. IsRunText (plain asked.now) (names_said names.now) (drawn run.entry) (string_bytes text)) }
 {
     let script = script_of(alloc, run.shown)?;
     let (checked, question) = (&asked.checked, &asked.question);
     let graph = run_graph(alloc, checked, question, &script, run.last)?;
     drop(script);
-    let text = text_of(alloc, asked, &graph, Some(run))?;
+    let text = text_of(alloc, asked, names, &graph, Some(run))?;
     Ok(text)
 }
 
@@ -143,20 +150,21 @@ fn run_text(alloc: Global, asked: &CheckedQuestion, run: DrawnRun<'_>) -> Result
 fn graph_text(
     alloc: Global,
     asked: &CheckedQuestion,
+    names: &[&str],
     run: Option<DrawnRun<'_>>,
 ) -> Result<GraphText, AllocError>
     requires { AreSpelled (drawn_of run) }
-    ensures { IfOk result (IsTextOf (plain asked.now) (drawn_of run.entry)) }
+    ensures { IfOk result (IsTextOf (plain asked.now) (names_said names.now) (drawn_of run.entry)) }
 {
     let (checked, question) = (&asked.checked, &asked.question);
     match state_graph(alloc, checked, question, MAX_GRAPH_STATES) {
         Ok(graph) => {
-            let text = text_of(alloc, asked, &graph, run)?;
+            let text = text_of(alloc, asked, names, &graph, run)?;
             Ok(GraphText::Whole(text))
         }
         Err(GraphError::Memory) => Err(AllocError),
         Err(GraphError::TooMany) => match run {
-            Some(run) => Ok(GraphText::Run(run_text(alloc, asked, run)?)),
+            Some(run) => Ok(GraphText::Run(run_text(alloc, asked, names, run)?)),
             None => Ok(GraphText::TooMany),
         },
     }
@@ -174,25 +182,26 @@ fn write<'w, F: NewFiles>(files: &mut F, name: &'w str, text: &String) -> Result
 }
 
 /// Writes the graph of states to the file of this name, if one is given, with the run that shows
-/// what is found. If the graph has too many states, this run alone is written; or nothing, if there
-/// is none.
+/// what is found. Its nodes show what these names name. If the graph has too many states, this run
+/// alone is written; or nothing, if there is none.
 #[tactic(auto, using(crate::proofs::GrowingFiles::makes_none))]
 pub(crate) fn draw<'w, F: NewFiles>(
     files: &mut F,
     alloc: Global,
     asked: &CheckedQuestion,
+    names: &[&str],
     name: Option<&'w str>,
     finding: &Finding,
 ) -> Result<GraphFile, Fault<'w>>
     requires { AreSpelled (drawn_in finding.now) }
     ensures drawn { IfOk result (λ drawing. (made : List MadeFile) × Makes (F.made files.old) (F.made files.new) made
-        × IsDrawn (plain asked.now) (drawn_in finding.now) (option_map (λ name. name.now) name.entry) (graph_lines drawing) made) }
-    ensures explained { IfErr result (ExplainsDrawing (plain asked.now) (drawn_in finding.now) (option_map (λ name. name.now) name.entry) (F.made files.old) (F.made files.new)) }
+        × IsDrawn (plain asked.now) (names_said names.now) (drawn_in finding.now) (option_map (λ name. name.now) name.entry) (graph_lines drawing) made) }
+    ensures explained { IfErr result (ExplainsDrawing (plain asked.now) (names_said names.now) (drawn_in finding.now) (option_map (λ name. name.now) name.entry) (F.made files.old) (F.made files.new)) }
 {
     let Some(name) = name else {
         return Ok(GraphFile::NotAsked);
     };
-    match graph_text(alloc, asked, drawn_run(finding))? {
+    match graph_text(alloc, asked, names, drawn_run(finding))? {
         GraphText::Whole(text) => {
             write(files, name, &text)?;
             Ok(GraphFile::Written)

@@ -7,4 +7,5 @@ mod facts;
 pub mod files;
 mod finding_line;
 mod graph_file;
+mod known_names;
 mod quiet_file;

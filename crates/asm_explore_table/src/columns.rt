@@ -50,7 +50,7 @@ fn is_proper_named(
 }
 
 /// Whether one of the names is that of this location, or of its function.
-pub(crate) fn is_named(
+pub fn is_named(
     alloc: Global,
     checked: &Checked,
     names: &[&str],

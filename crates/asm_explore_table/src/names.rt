@@ -1,10 +1,10 @@
-//! Names of locations that a table is to show.
+//! Names of locations that are to be shown.
 ghost use Rattle.std.specs.Prelude.{◌≡◌, All, true, IfNone, IfOk, IfSome};
 ghost use Rattle.asm_syntax.specs.code.Views.{spec_of};
 ghost use Rattle.asm_explore_table.specs.Tables.{IsFirstUnknown, is_known as is_known_name};
 ghost use Rattle.asm_explore_table.specs.code.StepsMade.{names_said};
 
-use crate::columns::is_named;
+pub use crate::columns::is_named;
 use asm_check::Checked;
 use std::alloc::{AllocError, Global};
 

@@ -50,7 +50,16 @@ fn message_to<S: AsStr, W: Write>(
                 _ => Ok(()),
             }
         }
+        NoAnswer::Name(name) => unknown(name_option(words), name, out),
         _ => message(fault, out),
+    }
+}
+
+/// The option of these words that gives names of what is shown.
+fn name_option<S: AsStr>(words: &[S]) -> &'static str {
+    match words.first() {
+        Some(command) if command.as_str() == "all" => "--dot-only",
+        _ => "--only",
     }
 }
 
@@ -72,16 +81,19 @@ fn message<W: Write>(fault: &NoAnswer<'_>, out: &mut W) -> fmt::Result {
         NoAnswer::QuietScript(name) => {
             writeln!(out, "asm-explore: {name}: the script can't be written")
         }
-        NoAnswer::Name(name) => {
-            writeln!(
-                out,
-                "asm-explore: --only {name}: no location is named so, nor its function"
-            )
-        }
+        NoAnswer::Name(name) => unknown("--only", name, out),
         NoAnswer::Unconfirmed => {
             out.write_str("asm-explore: an error of this program: the script leads to no fault\n")
         }
     }
+}
+
+/// Writes that no location has this name, which the option gives, nor the function of one.
+fn unknown<W: Write>(option: &str, name: &str, out: &mut W) -> fmt::Result {
+    writeln!(
+        out,
+        "asm-explore: {option} {name}: no location is named so, nor its function"
+    )
 }
 
 fn unreadable<W: Write>(source: Source<'_>, out: &mut W) -> fmt::Result {

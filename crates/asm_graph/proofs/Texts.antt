@@ -38,15 +38,15 @@ join_more f sep (y ∷ xs) x =
     ap (λ t. f y ++ t) (flat_map-append (λ z. sep ++ f z) xs (x ∷ []) ∙ ap (λ t. flat_map (λ z. sep ++ f z) xs ++ t) (append-nil (sep ++ f x)))
     ∙ sym (append_assoc (f y) (flat_map (λ z. sep ++ f z) xs) (sep ++ f x))
 
-pub node_lines_more : (s : Spec) (i : ℕ) (nodes : List Node) (steps : List Step) (n : Node) (step : Step) → length steps ≡ length nodes
-    → node_lines s i (nodes ++ n ∷ []) (steps ++ step ∷ []) ≡ node_lines s i nodes steps ++ node_line s (i + length nodes) n step
-node_lines_more s i [] [] n step same = append-nil (node_line s i n step) ∙ ap (λ j. node_line s j n step) (omega arith)
-node_lines_more s i [] (w ∷ steps) n step same = absurd (omega (arith, same))
-node_lines_more s i (m ∷ nodes) [] n step same = absurd (omega (arith, same))
-node_lines_more s i (m ∷ nodes) (w ∷ steps) n step same =
-    ap (λ t. node_line s i m w ++ t) (node_lines_more s (suc i) nodes steps n step (omega (arith, same)))
-    ∙ sym (append_assoc (node_line s i m w) (node_lines s (suc i) nodes steps) (node_line s (suc i + length nodes) n step))
-    ∙ ap (λ j. (node_line s i m w ++ node_lines s (suc i) nodes steps) ++ node_line s j n step) (omega arith)
+pub node_lines_more : (s : Spec) (names : List (List ℕ)) (i : ℕ) (nodes : List Node) (steps : List Step) (n : Node) (step : Step) → length steps ≡ length nodes
+    → node_lines s names i (nodes ++ n ∷ []) (steps ++ step ∷ []) ≡ node_lines s names i nodes steps ++ node_line s names (i + length nodes) n step
+node_lines_more s names i [] [] n step same = append-nil (node_line s names i n step) ∙ ap (λ j. node_line s names j n step) (omega arith)
+node_lines_more s names i [] (w ∷ steps) n step same = absurd (omega (arith, same))
+node_lines_more s names i (m ∷ nodes) [] n step same = absurd (omega (arith, same))
+node_lines_more s names i (m ∷ nodes) (w ∷ steps) n step same =
+    ap (λ t. node_line s names i m w ++ t) (node_lines_more s names (suc i) nodes steps n step (omega (arith, same)))
+    ∙ sym (append_assoc (node_line s names i m w) (node_lines s names (suc i) nodes steps) (node_line s names (suc i + length nodes) n step))
+    ∙ ap (λ j. (node_line s names i m w ++ node_lines s names (suc i) nodes steps) ++ node_line s names j n step) (omega arith)
 
 -- ---- lines that are shown
 
@@ -97,17 +97,17 @@ module _ {X : Type 0} (xs : List X) (i : ℕ) (x : X) (low : i < length xs) (is 
   pub one_more : take (i + 1) xs ≡ take i xs ++ x ∷ []
   one_more = take_more xs i x low ∙ ap (λ y. take i xs ++ y ∷ []) (sym is)
 
-pub node_lines_next : (s : Spec) (nodes : List Node) (steps : List Step) (i : ℕ) (n : Node) (step : Step) (start old new : List ℕ) → i < length nodes → length steps ≡ length nodes
-    → n ≡ get_or nodes i n → step ≡ get_or steps i step → old ≡ start ++ node_lines s 0 (take i nodes) (take i steps) → new ≡ old ++ node_line s i n step
-    → new ≡ start ++ node_lines s 0 (take (i + 1) nodes) (take (i + 1) steps)
-node_lines_next s nodes steps i n step start old new low paired is_node is_step is_old is_new =
+pub node_lines_next : (s : Spec) (names : List (List ℕ)) (nodes : List Node) (steps : List Step) (i : ℕ) (n : Node) (step : Step) (start old new : List ℕ) → i < length nodes → length steps ≡ length nodes
+    → n ≡ get_or nodes i n → step ≡ get_or steps i step → old ≡ start ++ node_lines s names 0 (take i nodes) (take i steps) → new ≡ old ++ node_line s names i n step
+    → new ≡ start ++ node_lines s names 0 (take (i + 1) nodes) (take (i + 1) steps)
+node_lines_next s names nodes steps i n step start old new low paired is_node is_step is_old is_new =
     let count : length (take i nodes) ≡ i = length-take-le i nodes (omega (arith, low)) in
     let same : length (take i steps) ≡ length (take i nodes) = length-take-le i steps (omega (arith, low, paired)) ∙ sym count in
-    let whole : node_lines s 0 (take (i + 1) nodes) (take (i + 1) steps) ≡ node_lines s 0 (take i nodes) (take i steps) ++ node_line s i n step =
-    ap (λ ns. node_lines s 0 ns (take (i + 1) steps)) (one_more nodes i n low is_node)
-    ∙ ap (node_lines s 0 (take i nodes ++ n ∷ [])) (one_more steps i step (omega (arith, low, paired)) is_step)
-    ∙ node_lines_more s 0 (take i nodes) (take i steps) n step same ∙ ap (λ j. node_lines s 0 (take i nodes) (take i steps) ++ node_line s j n step) (omega (arith, count)) in
-    is_new ∙ ap (λ t. t ++ node_line s i n step) is_old ∙ append_assoc start (node_lines s 0 (take i nodes) (take i steps)) (node_line s i n step) ∙ ap (λ t. start ++ t) (sym whole)
+    let whole : node_lines s names 0 (take (i + 1) nodes) (take (i + 1) steps) ≡ node_lines s names 0 (take i nodes) (take i steps) ++ node_line s names i n step =
+    ap (λ ns. node_lines s names 0 ns (take (i + 1) steps)) (one_more nodes i n low is_node)
+    ∙ ap (node_lines s names 0 (take i nodes ++ n ∷ [])) (one_more steps i step (omega (arith, low, paired)) is_step)
+    ∙ node_lines_more s names 0 (take i nodes) (take i steps) n step same ∙ ap (λ j. node_lines s names 0 (take i nodes) (take i steps) ++ node_line s names j n step) (omega (arith, count)) in
+    is_new ∙ ap (λ t. t ++ node_line s names i n step) is_old ∙ append_assoc start (node_lines s names 0 (take i nodes) (take i steps)) (node_line s names i n step) ∙ ap (λ t. start ++ t) (sym whole)
 
 pub fault_shown : (steps : List Step) (f : StepFault) (start : List ℕ) → list_any (has_fault f) steps ≡ true
     → ((start ++ codes "  ") ++ fault_name f) ++ codes " [shape=octagon, color=red, fontcolor=red];\n" ≡ start ++ fault_line steps f

@@ -6,7 +6,7 @@
 --     way_begins, way_longer, way_ended    the nodes so far, and one more
 --     whole_more, paired_more     what is said of them all
 --     same_way                marks by other conditions that are true in the same states
-use Rattle.std.proofs.Common.{◌≡◌, ◌∙◌, ◌-◌, ◌<◌, ℕ, zero, suc, ◌+◌, Bool, List, [], ◌∷◌, ◌++◌, length, Option, None, Some, append_assoc, inl, inr, refl, sym, ap, subst, arith}
+use Rattle.std.proofs.Common.{◌≡◌, ◌≢◌, ◌∙◌, ◌-◌, ◌<◌, ℕ, zero, suc, ◌+◌, Bool, List, [], ◌∷◌, ◌++◌, length, Option, None, Some, append_assoc, inl, inr, refl, sym, ap, subst, arith}
 use Rattle.std.proofs.lemmas.List.{length-append}
 use Rattle.asm_state.specs.Location.{State}
 use Rattle.asm_state.specs.Signature.{Shape, count_of, state_of}
@@ -44,18 +44,18 @@ goes_ended i A r (target.Node j) After h = record {
   leads = inl (h.0, h.1.leads, (refl, refl));
 }
 
-goes_next : (i : ℕ) (A B : State) (r : Result) (After : State → List Node → List Step → Type 0) (nodes : List Node) (steps : List Step) → LeadsOn r A (λ C. C ≡ B) → After B nodes steps
-    → GoesAlong i A r (target.Node (suc i)) After nodes steps
-goes_next i A B r After nodes steps h after = record {
+goes_next : (i : ℕ) (A B : State) (r : Result) (After : State → List Node → List Step → Type 0) (nodes : List Node) (steps : List Step) → LeadsOn r A (λ C. C ≡ B) → B ≢ A
+    → After B nodes steps → GoesAlong i A r (target.Node (suc i)) After nodes steps
+goes_next i A B r After nodes steps h other after = record {
   set = h.set;
   gives = h.gives;
   consistent = h.consistent;
-  leads = inr (refl, subst (λ C. After C nodes steps) (sym h.leads) after);
+  leads = inr (refl, (λ same. other (sym h.leads ∙ same)), subst (λ C. After C nodes steps) (sym h.leads) after);
 }
 
 goes_on : (i : ℕ) (A B : State) (r : Result) (to : EdgeEnd) (After : State → List Node → List Step → Type 0) (nodes : List Node) (steps : List Step) → to ≡ target.Node (suc i)
-    → LeadsOn r A (λ C. C ≡ B) → After B nodes steps → GoesAlong i A r to After nodes steps
-goes_on i A B r to After nodes steps is h after = subst (λ t. GoesAlong i A r t After nodes steps) (sym is) (goes_next i A B r After nodes steps h after)
+    → LeadsOn r A (λ C. C ≡ B) → B ≢ A → After B nodes steps → GoesAlong i A r to After nodes steps
+goes_on i A B r to After nodes steps is h other after = subst (λ t. GoesAlong i A r t After nodes steps) (sym is) (goes_next i A B r After nodes steps h other after)
 
 pub leads_back : (r : Result) (A B : State) → LeadsOn r A (λ C. C ≡ B) → B ≡ A → LeadsOn r A (λ C. C ≡ A)
 leads_back r A B h same = record { set = h.set; gives = h.gives; consistent = h.consistent; leads = h.leads ∙ same }
@@ -82,7 +82,7 @@ module _ (shape : Shape) (right rests : State → Bool) (specification : Specifi
           edge = e;
           alone = alone;
           choices = choices;
-          goes = goes_on i A (state_of shape next) _ e.to (IsPathFrom shape right rests specification turns script left (suc i)) nodes steps h.1 h.2 after;
+          goes = goes_on i A (state_of shape next) _ e.to (IsPathFrom shape right rests specification turns script left (suc i)) nodes steps h.1 h.2 h.3 after;
         },
       ),
     )
@@ -150,7 +150,7 @@ goes_weaker i A r (target.Node j) P Q nodes steps weaker h = record {
   set = h.set;
   gives = h.gives;
   consistent = h.consistent;
-  leads = elim h.leads [ inl back ↦ inl back | inr on ↦ inr (on.0, weaker _ on.1) ];
+  leads = elim h.leads [ inl back ↦ inl back | inr on ↦ inr (on.0, on.1, weaker _ on.2) ];
 }
 
 module _ (shape : Shape) (right rests also rested : State → Bool) (alike : (A : State) → right A ≡ also A) (resting : (A : State) → rests A ≡ rested A) where

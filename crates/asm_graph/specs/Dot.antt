@@ -5,14 +5,15 @@
 --     quoted bytes         the same with the quotes
 --     QuotedLaw            it ends at the second of them
 --     is_quiet i step      each edge of the step leads back to the node with this number
---     node_line            the line of a node: its label, a double border if it is the first one,
---                          red if its state isn't right, or is quiet and no run may rest in it, and
---                          grey if it is quiet, or dashed if no edges of it are shown
+--     node_line            the line of a node: its label with what these names show, a double border
+--                          if it is the first one, red if its state isn't right, or is quiet and no
+--                          run may rest in it, and grey if it is quiet, or dashed if no edges of it
+--                          are shown
 --     fault_line           the line of a kind of fault, if some edge has it
 --     arrow_line arrow     the line of an edge as it is drawn: from which node it leads where, its
 --                          label, and whether it is red
---     dot_of s graph arrows    the whole text: the name of the specification, the nodes, the faults
---                          and the edges, and `}` in the last line
+--     dot_of s names graph arrows    the whole text: the name of the specification, the nodes, the
+--                          faults and the edges, and `}` in the last line
 --     IsDotOf              such a text, with each edge of the graph as it is to be drawn, and those
 --                          of a path red
 use Rattle.std.specs.Prelude.{◌≡◌, ℕ, suc, Bool, true, false, not, ◌&&◌, ◌||◌, ◌==◌, if◌then◌else◌, List, [], ◌∷◌, ◌++◌, codes, decimal, encode_utf8}
@@ -85,15 +86,15 @@ marks i n step = first_mark i ++ (wrong_mark (is_quiet i step) n ++ style (is_qu
 abbrev pub node_name : ℕ → List ℕ
 node_name i = codes "s" ++ decimal i
 
-abbrev pub node_line : Spec → ℕ → Node → Step → List ℕ
-node_line s i n step =
-    codes "  " ++ (node_name i ++ (codes " [label=" ++ (quoted (node_label s i (state_at (shape_of s) n) step) ++ (marks i n step ++ codes "];\n"))))
+abbrev pub node_line : Spec → (names : List (List ℕ)) → ℕ → Node → Step → List ℕ
+node_line s names i n step =
+    codes "  " ++ (node_name i ++ (codes " [label=" ++ (quoted (node_label s names i (state_at (shape_of s) n) step) ++ (marks i n step ++ codes "];\n"))))
 
 -- from this number on
-abbrev pub node_lines : Spec → ℕ → List Node → List Step → List ℕ
-node_lines s i [] steps = []
-node_lines s i (n ∷ nodes) [] = []
-node_lines s i (n ∷ nodes) (step ∷ steps) = node_line s i n step ++ node_lines s (suc i) nodes steps
+abbrev pub node_lines : Spec → (names : List (List ℕ)) → ℕ → List Node → List Step → List ℕ
+node_lines s names i [] steps = []
+node_lines s names i (n ∷ nodes) [] = []
+node_lines s names i (n ∷ nodes) (step ∷ steps) = node_line s names i n step ++ node_lines s names (suc i) nodes steps
 
 -- ---- faults
 
@@ -135,15 +136,15 @@ arrow_line arrow =
 
 -- ---- the whole
 
-abbrev pub dot_of : Spec → Graph → List Arrow → List ℕ
-dot_of s graph arrows =
+abbrev pub dot_of : Spec → (names : List (List ℕ)) → Graph → List Arrow → List ℕ
+dot_of s names graph arrows =
     codes "digraph " ++ (quoted s.name.text ++ (codes " {\n  node [shape=box];\n"
-    ++ (node_lines s 0 graph.nodes.items graph.steps.items
+    ++ (node_lines s names 0 graph.nodes.items graph.steps.items
     ++ (flat_map (fault_line graph.steps.items) faults
     ++ (flat_map arrow_line arrows ++ codes "}\n")))))
 
--- of the graph of the specification, with this path
-pub record IsDotOf (s : Spec) (turns : ℕ) (path : List (ℕ × ℕ)) (graph : Graph) (dot : List ℕ) : Type 0 where
+-- of the graph of the specification, with what these names show, and this path
+pub record IsDotOf (s : Spec) (names : List (List ℕ)) (turns : ℕ) (path : List (ℕ × ℕ)) (graph : Graph) (dot : List ℕ) : Type 0 where
   pub arrows : List Arrow
   pub are : AreArrows s turns path graph.nodes.items graph.steps.items arrows
-  pub is : dot ≡ dot_of s graph arrows
+  pub is : dot ≡ dot_of s names graph arrows

@@ -2,20 +2,26 @@
 --     value_text s v, location_text s l   a value, and a location, as the specification s writes
 --                                         them
 --     content_lines s l v                 a line for a location that isn't undef, and else none
---     state_lines s A                     those of all locations of a state, in their order
+--     shown_by s names l                  a location is shown: one that is named, or any, if there
+--                                         are no names. A name is that of a location, or of its
+--                                         function
+--     shown_lines s names A l             the lines of a location, if it is shown
+--     state_lines s names A               those of all locations of a state, in their order
 --     shortened lines                     twelve of them at most, and `..` for the others
---     node_label s i A step               the number of a node, its state, and whether its step
+--     node_label s names i A step         the number of a node, its state, and whether its step
 --                                         has too many outcomes
-use Rattle.std.specs.Prelude.{ℕ, true, false, List, [], ◌∷◌, ◌++◌, length, take, slice_index_or, nat_le, if◌then◌else◌, codes, decimal}
+use Rattle.std.specs.Prelude.{ℕ, Bool, true, false, ◌&&◌, cond, List, [], ◌∷◌, ◌++◌, length, take, slice_index_or, nat_le, if◌then◌else◌, codes, decimal}
 use Rattle.std.specs.List.{flat_map, join_by}
 use Rattle.std.specs.Fmt.{signed_decimal}
 use Rattle.asm_state.specs.declared.value.Value.{Value}
 use Rattle.asm_state.specs.declared.value.Value.TheVariants.{Undef, Truth, Number, Element}
 use Rattle.asm_state.specs.Location.{Location, Proper, Stray, State}
 use Rattle.asm_state.specs.Signature.{locations}
+use Rattle.asm_state.specs.Updates.{is_proper}
 use Rattle.asm_syntax.specs.SourceTree.{Spec}
 use Rattle.asm_check.specs.Numbers.{elements_of, functions_of}
 use Rattle.asm_check.specs.Shapes.{shape_of, texts_of}
+use Rattle.asm_explore_table.specs.Tables.{is_named}
 use Rattle.asm_graph.specs.declared.graph.Step.{Step}
 use Rattle.asm_graph.specs.declared.graph.Step.TheVariants as step
 
@@ -44,8 +50,15 @@ abbrev pub content_lines : Spec → Location → Value → List (List ℕ)
 content_lines s l Undef = []
 content_lines s l v = (location_text s l ++ (codes " = " ++ value_text s v)) ∷ []
 
-abbrev pub state_lines : Spec → State → List (List ℕ)
-state_lines s A = flat_map (λ l. content_lines s l (A l)) (locations (shape_of s))
+abbrev pub shown_by : Spec → (names : List (List ℕ)) → Location → Bool
+shown_by s [] l = true
+shown_by s (name ∷ names) l = is_proper l && is_named s (name ∷ names) l
+
+abbrev pub shown_lines : Spec → (names : List (List ℕ)) → State → Location → List (List ℕ)
+shown_lines s names A l = cond (shown_by s names l) (content_lines s l (A l)) []
+
+abbrev pub state_lines : Spec → (names : List (List ℕ)) → State → List (List ℕ)
+state_lines s names A = flat_map (shown_lines s names A) (locations (shape_of s))
 
 abbrev pub shortened : List (List ℕ) → List (List ℕ)
 shortened lines = if nat_le (length lines) 12 then lines else take 12 lines ++ codes ".." ∷ []
@@ -55,5 +68,5 @@ crowd_lines step.Cut = []
 crowd_lines step.Crowded = codes "too many outcomes" ∷ []
 crowd_lines (step.Edges es) = []
 
-abbrev pub node_label : Spec → (number : ℕ) → State → Step → List ℕ
-node_label s i A step = join_by (λ line. line) (codes "\n") (decimal i ∷ (shortened (state_lines s A) ++ crowd_lines step))
+abbrev pub node_label : Spec → (names : List (List ℕ)) → (number : ℕ) → State → Step → List ℕ
+node_label s names i A step = join_by (λ line. line) (codes "\n") (decimal i ∷ (shortened (state_lines s names A) ++ crowd_lines step))

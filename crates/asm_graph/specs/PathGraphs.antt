@@ -4,11 +4,11 @@
 --     IsPathEdge               such an edge alone
 --     IsPathFrom left i A      from the state after `i` steps on, of a run that makes at most `left`
 --                              more: a node for each state, with one edge, which has the choices
---                              that the step makes. It leads to the next node; or to the fault of
---                              the step; or back, if the step changes nothing, and no step after
---                              that is shown
+--                              that the step makes. It leads to the next node, whose state is
+--                              another one; or to the fault of the step; or back, if the step
+--                              changes nothing, and no step after that is shown
 --     IsPathGraph limit graph     so it is from the first state on
-use Rattle.std.specs.Prelude.{◌≡◌, ◌⊎◌, ℕ, zero, suc, Bool, List, [], ◌∷◌, length}
+use Rattle.std.specs.Prelude.{◌≡◌, ◌≢◌, ◌⊎◌, ℕ, zero, suc, Bool, List, [], ◌∷◌, length}
 use Rattle.asm_state.specs.Location.{State}
 use Rattle.asm_state.specs.Signature.{Shape, count_of}
 use Rattle.asm_reader.specs.ScriptLines.{Script}
@@ -39,7 +39,7 @@ IsEdgesOf es (step.Edges shown) = shown.items ≡ es
 -- where the edge from node i leads, of a step that yields this in A, and what comes after it
 abbrev pub GoesAlong : (i : ℕ) → State → Result → EdgeEnd → (After : State → List Node → List Step → Type 0) → List Node → List Step → Type 0
 GoesAlong i A r (target.Fault f) After nodes steps = HasFault f r × AreNone nodes steps
-GoesAlong i A r (target.Node j) After nodes steps = LeadsOn r A (λ B. ((j ≡ i) × (B ≡ A) × AreNone nodes steps) ⊎ ((j ≡ suc i) × After B nodes steps))
+GoesAlong i A r (target.Node j) After nodes steps = LeadsOn r A (λ B. ((j ≡ i) × (B ≡ A) × AreNone nodes steps) ⊎ ((j ≡ suc i) × (B ≢ A) × After B nodes steps))
 
 -- the step that begins in the state after `i` steps
 abbrev pub step_behind : Script → (i : ℕ) → Situation

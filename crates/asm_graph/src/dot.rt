@@ -6,8 +6,10 @@ ghost use Rattle.asm_state.specs.Signature.{count_of};
 ghost use Rattle.asm_syntax.specs.code.Views.{spec_of};
 ghost use Rattle.asm_check.specs.Shapes.{shape_of};
 ghost use Rattle.asm_explore.specs.ListElements.{Each};
+ghost use Rattle.asm_explore_table.specs.code.StepsMade.{names_said};
 ghost use Rattle.asm_graph.specs.Dot as text;
 ghost use Rattle.asm_graph.specs.code.EdgeMarks.{AreMarks};
+ghost use Rattle.asm_graph.specs.code.ShownLocations.{IsOfNames};
 ghost use Rattle.asm_graph.specs.declared.graph.Node.{Node};
 
 use crate::arrow::Arrow;
@@ -15,7 +17,8 @@ use crate::arrows::arrows;
 use crate::edge_marks::EdgeMarks;
 use crate::escaped::push_quoted;
 use crate::graph::{Edge, EdgeEnd, Graph, Node, Step, StepFault};
-use crate::labels::label_of_node;
+use crate::labels::{NodeTexts, label_of_node};
+use crate::named_locations::shown_locations;
 use crate::quiet::is_quiet;
 use asm_check::Checked;
 use std::alloc::{AllocError, Global};
@@ -74,17 +77,18 @@ fn add_marks(dot: &mut String, number: usize, node: &Node, step: &Step) -> Resul
 fn add_node(
     alloc: Global,
     dot: &mut String,
-    checked: &Checked,
+    texts: &NodeTexts<'_>,
     number: usize,
     node: &Node,
     step: &Step,
 ) -> Result<(), AllocError>
-    requires { length node.now.state ≡ count_of (shape_of (spec_of checked.now.spec)) }
-    ensures { OnOk result (string_bytes dot.new ≡ string_bytes dot.old ++ text.node_line (spec_of checked.now.spec) number node.now step.now) }
+    requires whole { length node.now.state ≡ count_of (shape_of (spec_of texts.now.checked.now.spec)) }
+    requires of_names { IsOfNames texts.now }
+    ensures { OnOk result (string_bytes dot.new ≡ string_bytes dot.old ++ text.node_line (spec_of texts.now.checked.now.spec) (names_said texts.now.names.now) number node.now step.now) }
 {
     let head = format!(in alloc; "  s{number} [label=")?;
     dot.push_str(head.as_str())?;
-    let label = label_of_node(alloc, checked, number, node, step)?;
+    let label = label_of_node(alloc, texts, number, node, step)?;
     push_quoted(dot, label.as_slice())?;
     add_marks(dot, number, node, step)?;
     dot.push_str("];\n")
@@ -94,16 +98,17 @@ fn add_node(
 fn add_nodes(
     alloc: Global,
     dot: &mut String,
-    checked: &Checked,
+    texts: &NodeTexts<'_>,
     nodes: &[Node],
     steps: &[Step],
 ) -> Result<(), AllocError>
-    requires whole { Each (λ (n : Node). length n.state ≡ count_of (shape_of (spec_of checked.now.spec))) nodes.now }
+    requires whole { Each (λ (n : Node). length n.state ≡ count_of (shape_of (spec_of texts.now.checked.now.spec))) nodes.now }
     requires paired { length steps.now ≡ length nodes.now }
-    ensures { OnOk result (string_bytes dot.new ≡ string_bytes dot.old ++ text.node_lines (spec_of checked.now.spec) 0 nodes.now steps.now) }
+    requires of_names { IsOfNames texts.now }
+    ensures { OnOk result (string_bytes dot.new ≡ string_bytes dot.old ++ text.node_lines (spec_of texts.now.checked.now.spec) (names_said texts.now.names.now) 0 nodes.now steps.now) }
 {
     for number in 0..nodes.len() {
-        add_node(alloc, dot, checked, number, &nodes[number], &steps[number])?;
+        add_node(alloc, dot, texts, number, &nodes[number], &steps[number])?;
     }
     Ok(())
 }
@@ -218,22 +223,29 @@ fn add_arrows(alloc: Global, dot: &mut String, arrows: &[Arrow]) -> Result<(), A
     Ok(())
 }
 
-/// The text of a graph whose edges are drawn so.
+/// The text of a graph whose nodes show what these names name, and whose edges are drawn so.
 fn text_of(
     alloc: Global,
     checked: &Checked,
+    names: &[&str],
     graph: &Graph,
     arrows: &[Arrow],
 ) -> Result<String, AllocError>
     requires whole { Each (λ (n : Node). length n.state ≡ count_of (shape_of (spec_of checked.now.spec))) graph.now.nodes.items }
     requires paired { length graph.now.steps.items ≡ length graph.now.nodes.items }
-    ensures { IfOk result (λ dot. string_bytes dot ≡ text.dot_of (spec_of checked.now.spec) graph.now arrows.now) }
+    ensures { IfOk result (λ dot. string_bytes dot ≡ text.dot_of (spec_of checked.now.spec) (names_said names.now) graph.now arrows.now) }
 {
+    let shown = shown_locations(alloc, checked, names)?;
+    let texts = NodeTexts {
+        checked,
+        names,
+        shown: shown.as_slice(),
+    };
     let mut dot = String::from_str(alloc, "digraph ")?;
     push_quoted(&mut dot, checked.spec.name.text.as_bytes())?;
     dot.push_str(" {\n  node [shape=box];\n")?;
     let (nodes, steps) = (graph.nodes.as_slice(), graph.steps.as_slice());
-    add_nodes(alloc, &mut dot, checked, nodes, steps)?;
+    add_nodes(alloc, &mut dot, &texts, nodes, steps)?;
     add_faults(&mut dot, steps)?;
     add_arrows(alloc, &mut dot, arrows)?;
     dot.push_str("}\n")?;
@@ -242,20 +254,22 @@ fn text_of(
 
 /// The text of a graph of a specification, for Graphviz: a line for each node, in order, then one
 /// for each fault that some edge has, and then one for each edge, in order, with the names of the
-/// specification's text. Edges that are marked are red. Its last line alone is `}`, so that one that
-/// is cut off is seen to be.
+/// specification's text. Nodes show the locations that these names name, or all if there are no
+/// names. Edges that are marked are red. Its last line alone is `}`, so that one that is cut off is
+/// seen to be.
 pub fn dot_text(
     alloc: Global,
     checked: &Checked,
+    names: &[&str],
     turns: u32,
     graph: &Graph,
     marks: &EdgeMarks,
 ) -> Result<String, AllocError>
     requires whole { Each (λ (n : Node). length n.state ≡ count_of (shape_of (spec_of checked.now.spec))) graph.now.nodes.items }
     requires paired { length graph.now.steps.items ≡ length graph.now.nodes.items }
-    ensures { (path : List (ℕ × ℕ)) → AreMarks path marks.now → IfOk result (λ dot. text.IsDotOf (spec_of checked.now.spec) turns path graph.now (string_bytes dot)) }
+    ensures { (path : List (ℕ × ℕ)) → AreMarks path marks.now → IfOk result (λ dot. text.IsDotOf (spec_of checked.now.spec) (names_said names.now) turns path graph.now (string_bytes dot)) }
 {
     let arrows = arrows(alloc, checked, turns, graph, marks)?;
-    let dot = text_of(alloc, checked, graph, arrows.as_slice())?;
+    let dot = text_of(alloc, checked, names, graph, arrows.as_slice())?;
     Ok(dot)
 }

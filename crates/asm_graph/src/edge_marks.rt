@@ -13,8 +13,17 @@ pub struct EdgeMarks {
 }
 
 impl EdgeMarks {
+    /// No edge is marked.
+    pub fn none(alloc: Global) -> EdgeMarks
+        ensures { AreMarks [] result }
+    {
+        EdgeMarks {
+            rows: Vec::new(alloc),
+        }
+    }
+
     /// Of so many nodes no edge is marked.
-    pub fn none(alloc: Global, nodes: usize) -> Result<EdgeMarks, AllocError>
+    pub(crate) fn of_nodes(alloc: Global, nodes: usize) -> Result<EdgeMarks, AllocError>
         ensures none { IfOk result (AreMarks []) }
         ensures count { IfOk result (λ marks. length marks.rows.items ≡ nodes) }
     {

@@ -5,10 +5,12 @@ ghost use Rattle.asm_state.specs.Signature.{count_of, state_of};
 ghost use Rattle.asm_syntax.specs.code.Views.{spec_of};
 ghost use Rattle.asm_check.specs.Shapes.{shape_of};
 ghost use Rattle.asm_graph.specs.Graphs.{state_at};
+ghost use Rattle.asm_explore_table.specs.code.StepsMade.{names_said};
 ghost use Rattle.asm_graph.specs.Labels.{node_label, shortened, state_lines};
+ghost use Rattle.asm_graph.specs.code.ShownLocations.{IsOfNames};
 
 use crate::graph::{Node, Step};
-use crate::location_text::{is_shown, push_content};
+use crate::location_text::{is_content, push_content};
 use asm_check::Checked;
 use asm_state::state::State;
 use std::alloc::{AllocError, Global};
@@ -16,21 +18,33 @@ use std::alloc::{AllocError, Global};
 /// How many locations of a state are shown.
 const MAX_LOCATIONS_SHOWN: usize = 12;
 
-/// Adds a line for each location that isn't undef, in their order; `MAX_LOCATIONS_SHOWN` of them
-/// are shown.
+/// What nodes are written by.
+#[derive(Clone, Copy)]
+pub(crate) struct NodeTexts<'a> {
+    pub(crate) checked: &'a Checked,
+    /// The functions and locations that are shown; if there are none, all are.
+    pub(crate) names: &'a [&'a str],
+    /// Of each location whether it is shown.
+    pub(crate) shown: &'a [bool],
+}
+
+/// Adds a line for each location that is shown and isn't undef, in their order;
+/// `MAX_LOCATIONS_SHOWN` of them are shown.
 fn add_state(
     alloc: Global,
     label: &mut Vec<u8>,
-    checked: &Checked,
+    texts: &NodeTexts<'_>,
     state: &State,
 ) -> Result<(), AllocError>
-    requires { length state.now ≡ count_of (shape_of (spec_of checked.now.spec)) }
-    ensures { let s = spec_of checked.now.spec in
-        OnOk result (label.new.items ≡ label.old.items ++ flat_map (λ line. codes "\n" ++ line) (shortened (state_lines s (state_of (shape_of s) state.now)))) }
+    requires whole { length state.now ≡ count_of (shape_of (spec_of texts.now.checked.now.spec)) }
+    requires of_names { IsOfNames texts.now }
+    ensures { let s = spec_of texts.now.checked.now.spec in
+        OnOk result (label.new.items ≡ label.old.items ++ flat_map (λ line. codes "\n" ++ line) (shortened (state_lines s (names_said texts.now.names.now) (state_of (shape_of s) state.now)))) }
 {
+    let checked = texts.checked;
     let mut lines = 0usize;
     for n in 0..checked.signature().count() {
-        if is_shown(checked, state, n) {
+        if texts.shown[n] && is_content(checked, state, n) {
             label.extend_from_slice(b"\n")?;
             if lines >= MAX_LOCATIONS_SHOWN {
                 return label.extend_from_slice(b"..");
@@ -42,20 +56,21 @@ fn add_state(
     Ok(())
 }
 
-/// What is in a node: its number, and what its locations hold.
+/// What is in a node: its number, and what the locations hold that are shown.
 pub(crate) fn label_of_node(
     alloc: Global,
-    checked: &Checked,
+    texts: &NodeTexts<'_>,
     number: usize,
     node: &Node,
     step: &Step,
 ) -> Result<Vec<u8>, AllocError>
-    requires { length node.now.state ≡ count_of (shape_of (spec_of checked.now.spec)) }
-    ensures { let s = spec_of checked.now.spec in
-        IfOk result (λ label. label.items ≡ node_label s number (state_at (shape_of s) node.now) step.now) }
+    requires whole { length node.now.state ≡ count_of (shape_of (spec_of texts.now.checked.now.spec)) }
+    requires of_names { IsOfNames texts.now }
+    ensures { let s = spec_of texts.now.checked.now.spec in
+        IfOk result (λ label. label.items ≡ node_label s (names_said texts.now.names.now) number (state_at (shape_of s) node.now) step.now) }
 {
     let mut label = format!(in alloc; "{number}")?.into_bytes();
-    add_state(alloc, &mut label, checked, &node.state)?;
+    add_state(alloc, &mut label, texts, &node.state)?;
     match step {
         Step::Crowded => label.extend_from_slice(b"\ntoo many outcomes")?,
         Step::Cut | Step::Edges(_) => {}

@@ -111,8 +111,8 @@ fn is_undef(value: Word) -> bool
     matches!(value.value(), Value::Undef)
 }
 
-/// Whether the location with this number is shown: it is proper, and isn't undef.
-pub(crate) fn is_shown(checked: &Checked, state: &State, n: usize) -> bool
+/// Whether the location with this number has a line: it is proper, and isn't undef.
+pub(crate) fn is_content(checked: &Checked, state: &State, n: usize) -> bool
     requires whole { length state.now ≡ count_of (shape_of (spec_of checked.now.spec)) }
     requires in_range { n < length state.now }
     ensures shown { let s = spec_of checked.now.spec in let l = location_at (shape_of s) n in result ≡ true →

@@ -101,10 +101,10 @@ fn state_behind<P: Picks>(
     state: &State,
 ) -> Result<Result<State, StepFault>, AllocError>
     requires specified { IsSpecified specified.now }
-    requires whole { length state.now ≡ count_of (shape_of (spec_of specified.now.checked.now.spec)) }
+    requires state { IsStateOf (shape_of (spec_of specified.now.checked.now.spec)) state.now }
     ensures leads { let s = spec_of specified.now.checked.now.spec in let A = state_of (shape_of s) state.now in
         IfOk result (λ led. IfOk led (λ next. LeadsOn (steps_from (specification_of s) specified.now.turns A (situation_of P.script choices.now)) A (λ B. B ≡ state_of (shape_of s) next))) }
-    ensures whole { IfOk result (λ led. IfOk led (λ next. length next ≡ count_of (shape_of (spec_of specified.now.checked.now.spec)))) }
+    ensures state { IfOk result (λ led. IfOk led (IsStateOf (shape_of (spec_of specified.now.checked.now.spec)))) }
     ensures fault { let s = spec_of specified.now.checked.now.spec in let A = state_of (shape_of s) state.now in
         IfOk result (λ led. IfErr led (λ fault. HasFault fault (steps_from (specification_of s) specified.now.turns A (situation_of P.script choices.now)))) }
 {
@@ -131,7 +131,7 @@ fn end_of<P: Picks>(
 ) -> Result<(EdgeEnd, Option<State>), AllocError>
     requires low { number + 1 < 2 ^ 64 }
     requires specified { IsSpecified specified.now }
-    requires whole { length state.now ≡ count_of (shape_of (spec_of specified.now.checked.now.spec)) }
+    requires state { IsStateOf (shape_of (spec_of specified.now.checked.now.spec)) state.now }
     ensures { let s = spec_of specified.now.checked.now.spec in let A = state_of (shape_of s) state.now in
         IfOk result (λ made. IsEndOf (shape_of s) number A (steps_from (specification_of s) specified.now.turns A (situation_of P.script choices.now)) made.0 made.1) }
 {
@@ -188,7 +188,7 @@ fn step_on<P: Picks>(
 ) -> Result<Option<State>, AllocError>
     requires low { done + 1 < 2 ^ 64 }
     requires specified { IsSpecified specified.now }
-    requires whole { length state.now ≡ count_of (shape_of (spec_of specified.now.checked.now.spec)) }
+    requires state { IsStateOf (shape_of (spec_of specified.now.checked.now.spec)) state.now }
     ensures { let s = spec_of specified.now.checked.now.spec in let shape = shape_of s in
         IfOk result (IsWayMore shape (holds_in shape specified.now.always.now) (holds_in shape specified.now.when_quiet.now) (specification_of s) specified.now.turns (P.script script.now) done (state_of shape state.now) graph.old graph.new) }
 {

@@ -54,7 +54,7 @@ pub fn run_marks<P: Picks>(
     ensures { IfOk result (AreMarks (run_edges graph.now.steps.items (P.script script.now) limit)) }
 {
     let steps = graph.steps.as_slice();
-    let mut marks = EdgeMarks::none(alloc, steps.len())?;
+    let mut marks = EdgeMarks::of_nodes(alloc, steps.len())?;
     let mut node = 0usize;
     for done in 0..limit {
         let edges = edges_from(steps, node);

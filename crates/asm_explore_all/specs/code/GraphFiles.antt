@@ -1,6 +1,6 @@
 -- Bridge to the code. The graph that is drawn, as the code has it.
 --     drawn run, drawn_of run     a run that is drawn, if there is one
---     IsTextOf asked run text    what a text of a graph is of
+--     IsTextOf asked names run text    what a text of a graph is of
 --     graph_lines drawing         the lines, for what became of it
 --     ExplainsWriting name text old new fault    why a file with this text isn't written
 use Rattle.std.specs.Prelude.{◌≡◌, ℕ, List, [], ◌∷◌, None, Option, Some, option_map}
@@ -24,14 +24,14 @@ abbrev pub drawn_of : Option DrawnRun → Option Drawn
 drawn_of run = option_map drawn run
 
 -- which run is drawn alone
-abbrev pub IsRunOf : AskedQuestion → Option Drawn → List ℕ → Type 0
-IsRunOf asked None text = ⊥
-IsRunOf asked (Some run) text = IsRunText asked run text
+abbrev pub IsRunOf : AskedQuestion → (names : List (List ℕ)) → Option Drawn → List ℕ → Type 0
+IsRunOf asked names None text = ⊥
+IsRunOf asked names (Some run) text = IsRunText asked names run text
 
-abbrev pub IsTextOf : AskedQuestion → Option Drawn → GraphText → Type 0
-IsTextOf asked run (made.Whole text) = IsGraphText asked run (string_bytes text)
-IsTextOf asked run (made.Run text) = HasTooMany asked × IsRunOf asked run (string_bytes text)
-IsTextOf asked run made.TooMany = HasTooMany asked × (run ≡ None)
+abbrev pub IsTextOf : AskedQuestion → (names : List (List ℕ)) → Option Drawn → GraphText → Type 0
+IsTextOf asked names run (made.Whole text) = IsGraphText asked names run (string_bytes text)
+IsTextOf asked names run (made.Run text) = HasTooMany asked × IsRunOf asked names run (string_bytes text)
+IsTextOf asked names run made.TooMany = HasTooMany asked × (run ≡ None)
 
 abbrev pub graph_lines : GraphFile → List (List ℕ)
 graph_lines NotAsked = []

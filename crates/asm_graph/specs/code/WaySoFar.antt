@@ -1,13 +1,14 @@
 -- Bridge to the code. The graph of a run, while its states are added.
 --     EndsAt i A r to             where the step from A yields this, the edge from node i leads to
 --                                 its fault, or back to the node, as the step changes nothing
---     IsEndOf i A r to next       so it does; or this state is behind it
+--     IsEndOf i A r to next       so it does; or this state is behind it, which is another one
 --     HasNodeMore A step old new  a graph has one node more, for this state, with this step
 --     IsWayMore i A old new next  and the step is that of a run: what comes after it goes on from
 --                                 this state, or nothing does
-use Rattle.std.specs.Prelude.{◌≡◌, ℕ, suc, Bool, List, [], ◌∷◌, ◌++◌, length, Option, Some, None}
+use Rattle.std.specs.Prelude.{◌≡◌, ◌≢◌, ℕ, suc, Bool, List, [], ◌∷◌, ◌++◌, length, Option, Some, None}
 use Rattle.asm_state.specs.Location.{State}
 use Rattle.asm_state.specs.Signature.{Shape, count_of, state_of}
+use Rattle.asm_state.specs.code.Contents.{IsStateOf}
 use Rattle.asm_state.specs.declared.value.Value.{Value}
 use Rattle.asm_reader.specs.ScriptLines.{Script}
 use Rattle.asm_meaning.specs.Run.{Specification}
@@ -27,7 +28,7 @@ EndsAt i A r (target.Node j) = (j ≡ i) × LeadsOn r A (λ B. B ≡ A)
 
 abbrev pub IsEndOf : Shape → (i : ℕ) → State → Result → EdgeEnd → (next : Option (List Value)) → Type 0
 IsEndOf shape i A r to None = EndsAt i A r to
-IsEndOf shape i A r to (Some next) = (length next ≡ count_of shape) × (to ≡ target.Node (suc i)) × LeadsOn r A (λ B. B ≡ state_of shape next)
+IsEndOf shape i A r to (Some next) = IsStateOf shape next × (to ≡ target.Node (suc i)) × LeadsOn r A (λ B. B ≡ state_of shape next) × (state_of shape next ≢ A)
 
 module _ (shape : Shape) (right rests : State → Bool) where
   pub record HasNodeMore (A : State) (step : Step) (old new : Graph) : Type 0 where
@@ -42,7 +43,7 @@ module _ (shape : Shape) (right rests : State → Bool) where
     abbrev pub GoesOn : (i : ℕ) → State → Node → Step → (next : Option (List Value)) → Type 0
     GoesOn i A node step None = (left : ℕ) → IsPathFrom shape right rests specification turns script (suc left) i A (node ∷ []) (step ∷ [])
     GoesOn i A node step (Some next) =
-        (length next ≡ count_of shape)
+        IsStateOf shape next
         × ((left : ℕ) (nodes : List Node) (steps : List Step) → IsPathFrom shape right rests specification turns script left (suc i) (state_of shape next) nodes steps
         → IsPathFrom shape right rests specification turns script (suc left) i A (node ∷ nodes) (step ∷ steps))
 

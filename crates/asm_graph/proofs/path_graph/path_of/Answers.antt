@@ -1,5 +1,6 @@
 use Rattle.std.proofs.Common.{◌≡◌, ◌+◌, ◌-◌, ◌∙◌, ◌∷◌, [], ap, arith, length, refl, subst, suc, sym}
 use Rattle.asm_state.specs.Signature.{Shape, count_of, initial_state, state_of}
+use Rattle.asm_state.specs.code.Contents.{IsStateOf}
 use Rattle.asm_syntax.specs.code.Views.{spec_of}
 use Rattle.asm_check.specs.Shapes.{shape_of}
 use Rattle.asm_meaning.specs.Declarations.{specification_of}
@@ -20,7 +21,7 @@ loop-done-init g c =
     let same = c.signature.ensures in
     let begin : state_of shape c.in_ok-state.state ≡ (specification_of s).initial = subst (λ (sh : Shape). state_of sh c.in_ok-state.state ≡ initial_state sh) same c.in_ok-state.ensures.initial in
     record {
-      whole = c.in_ok-state.ensures.whole ∙ ap count_of same;
+      state = subst (λ (sh : Shape). IsStateOf sh c.in_ok-state.state) same c.in_ok-state.ensures.state;
       nodes = subst (Each (λ (n : Node). length n.state ≡ count_of shape)) (sym c.new.ensures.items) tt;
       paired = ap length c.new-2.ensures.items ∙ sym (ap length c.new.ensures.items);
       path = way_begins shape (holds_in shape m.always.now) (holds_in shape m.when_quiet.now) (specification_of s) m.turns (g.P.Picks.script c.args.script.now) c.args.limit (state_of shape c.in_ok-state.state)
@@ -61,7 +62,7 @@ loop-done-preserved g c =
     let way = c.in_ok-next.ensures in
     let goes = subst (GoesOn shape right rests (specification_of s) m.turns script l.done A way.more.node way.step) c.in-Some.is way.goes in
     record {
-      whole = goes.0;
+      state = goes.0;
       nodes = whole_more shape right rests A way.step l.graph c.step_on.new.graph way.more l.invariant.nodes;
       paired = paired_more shape right rests A way.step l.graph c.step_on.new.graph way.more l.invariant.paired;
       path = way_longer shape right rests (specification_of s) m.turns script c.args.limit l.done A c.in-Some.next l.graph.nodes.items c.step_on.new.graph.nodes.items l.graph.steps.items

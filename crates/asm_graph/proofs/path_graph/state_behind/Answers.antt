@@ -18,14 +18,14 @@ returns-in-Next-clause-leads g c =
     let comes = subst (Comes shape yields c.args.state.now) c.in-Next.is c.in_ok-next.ensures in
     record { set = comes.2; gives = comes.3; consistent = comes.4; leads = sym comes.5 }
 
-pub returns-in-Next-clause-whole : goal.returns-in-Next-clause-whole
-returns-in-Next-clause-whole g c =
+pub returns-in-Next-clause-state : goal.returns-in-Next-clause-state
+returns-in-Next-clause-state g c =
     let m = c.args.specified.now in
     let s = spec_of m.checked.now.spec in
     let shape = shape_of s in
     let yields = (step (specification_of s) m.turns (g.P.Picks.script c.args.choices.now.script.now) c.args.choices.now.step (state_of shape c.args.state.now)).result in
     let comes = subst (Comes shape yields c.args.state.now) c.in-Next.is c.in_ok-next.ensures in
-    comes.0
+    comes.1 c.requires.state
 
 pub returns-in-Faulty-clause-fault : goal.returns-in-Faulty-clause-fault
 returns-in-Faulty-clause-fault g c =

@@ -8,7 +8,7 @@ use Rattle.asm_syntax.specs.code.Views.{spec_of}
 use Rattle.asm_check.specs.Shapes.{shape_of}
 use Rattle.asm_check.proofs.NumberLemmas.SoundShapes.{shape_is_sound}
 use Rattle.asm_graph.proofs.ShownContents.{content_at, lines_hidden, lines_shown, of_none}
-use Rattle.asm_graph.proofs.location_text.is_shown.Goals as goal
+use Rattle.asm_graph.proofs.location_text.is_content.Goals as goal
 
 pub returns-then-is_none-clause-shown : goal.returns-then-is_none-clause-shown
 returns-then-is_none-clause-shown c = λ yes.
