@@ -78,6 +78,9 @@ fn message<W: Write>(fault: &NoAnswer<'_>, out: &mut W) -> fmt::Result {
                 "asm-explore: --only {name}: no location is named so, nor its function"
             )
         }
+        NoAnswer::Draw(seed) => {
+            writeln!(out, "asm-explore: --draw {seed}: the script of the run can't be written")
+        }
         NoAnswer::Unconfirmed => {
             out.write_str("asm-explore: an error of this program: the script leads to no fault\n")
         }
