@@ -18,7 +18,8 @@ use crate::random_words::{random, random_settings};
 use crate::settings::{RunQuestion, RunSettings, Settings, Task, WordFault, apart, run_apart};
 use crate::show_words::{show, show_settings};
 use crate::text_options::{
-    ALWAYS, ALWAYS_FILE, DEADLOCK_UNLESS, DOT, DOT_ONLY, PROGRESS, QUIET, TABLE, TRACE, WITHIN,
+    ALWAYS, ALWAYS_FILE, DEADLOCK_UNLESS, DOT, DOT_ONLY, PROGRESS, QUIET, SCRIPT, TABLE, TRACE,
+    WITHIN,
 };
 use asm_arguments::numbers::number_of;
 use clap::error::ErrorKind;

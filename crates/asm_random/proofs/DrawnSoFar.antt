@@ -68,7 +68,7 @@ module _ (specification : Specification) (turns : ℕ) where
           let asks : asked_after specification turns new k ≡ asked_after specification turns old k =
           ap (λ (A : State). asked_from specification turns A (at_step new (suc k))) state
           ∙ ap asked (tells_alike specification turns new old (suc k) (run specification turns old k).last (λ p. grown_picks d e adds (suc k) p (omega (arith, low, count)))) in
-          subst (λ (as : List Asking). AreDrawn seed 0 (suc k) as) (sym asks) (h.drawn k low);
+          subst (λ (those : List Asking). AreDrawn seed 0 (suc k) those) (sym asks) (h.drawn k low);
     }
 
     pub drawn_next : (script : Script) (n : ℕ) (A : State) → IsDrawnTo specification turns right seed script n → IsAfter specification turns script n A → right A ≡ true
@@ -92,7 +92,7 @@ module _ (specification : Specification) (turns : ℕ) where
             let few : k ≤ n = omega (arith, low) in
             let asks : asked_after specification turns t k ≡ asked_after specification turns s k =
             ap (λ (r : Run). asked_from specification turns r.last (at_step t (suc k))) (same_run k few) ∙ ap asked (alike.alike k low) in
-            subst (λ (as : List Asking). AreDrawn seed 0 (suc k) as) (sym asks) (h.drawn k low);
+            subst (λ (those : List Asking). AreDrawn seed 0 (suc k) those) (sym asks) (h.drawn k low);
       }
 
       pub drawn_alike : IsDrawnRun specification turns right seed steps s n → IsDrawnRun specification turns right seed steps t n

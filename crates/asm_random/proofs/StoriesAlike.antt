@@ -151,32 +151,39 @@ module _ (specification : Specification) (turns : ℕ) where
   -- ---- what is chosen in a step
 
   module _ (script : Script) where
+    abbrev after_step : (k n i : ℕ) → State → Result → (instances : ℕ) → Type 0
+    after_step k n i A r m =
+        let made = then_by r m i A (λ U. run_by script k (suc i) (fire A U)) in
+        made.end ≡ AtLimit
+        → slice_get (after_set r (λ U. chosen_by script n (suc i) (fire A U))) k ≡ Some (chosen_from specification turns made.last (record { script = script; step = i + suc k }))
+
+    -- by what the step yields, and by what is chosen after a set that it fires
+    by_result : (k n i : ℕ) (A : State) (m : ℕ)
+        → ((U : UpdateSet) → (run_by script k (suc i) (fire A U)).end ≡ AtLimit → slice_get (chosen_by script n (suc i) (fire A U)) k
+        ≡ Some (chosen_from specification turns (run_by script k (suc i) (fire A U)).last (record { script = script; step = i + suc k })))
+        → (r : Result) → after_step k n i A r m
+    by_result k n i A m again (Exhausted q) ends = absurd (not_limit (AtExhausted i q) i q refl ends)
+    by_result k n i A m again (Gives U) ends = by_test (is_consistent U) ends
+      where
+        by_test : (b : Bool) → (cond b (fired U m (run_by script k (suc i) (fire A U))) (ended (AtFault i U) A)).end ≡ AtLimit
+            → slice_get (cond b (chosen_by script n (suc i) (fire A U)) []) k
+            ≡ Some (chosen_from specification turns (cond b (fired U m (run_by script k (suc i) (fire A U))) (ended (AtFault i U) A)).last (record { script = script; step = i + suc k }))
+        by_test true ends = again U ends
+        by_test false ends = absurd (not_faulty (AtFault i U) i U refl ends)
+
     chosen_here : (k n i : ℕ) (A : State) → k < n → (run_by script k i A).end ≡ AtLimit
         → slice_get (chosen_by script n i A) k ≡ Some (chosen_from specification turns (run_by script k i A).last (record { script = script; step = i + k }))
     chosen_here k zero i A low limit = absurd (omega (arith, low))
     chosen_here zero (suc n) i A low limit =
         let here : i ≡ i + 0 = omega arith in
         ap (λ (m : ℕ). Some (chosen_from specification turns A (record { script = script; step = m }))) here
-    chosen_here (suc k) (suc n) i A low limit = by_result (outcome_by script i A).result limit
-      where
-        after : UpdateSet → Run
-        after U = run_by script k (suc i) (fire A U)
-
-        by_result : (r : Result) → (then_by r (outcome_by script i A).instances i A after).end ≡ AtLimit
-            → slice_get (after_set r (λ U. chosen_by script n (suc i) (fire A U))) k
-            ≡ Some (chosen_from specification turns (then_by r (outcome_by script i A).instances i A after).last (record { script = script; step = i + suc k }))
-        by_result (Exhausted q) ends = absurd (not_limit (AtExhausted i q) i q refl ends)
-        by_result (Gives U) ends = by_test (is_consistent U) ends
-          where
-            by_test : (b : Bool) → (cond b (fired U (outcome_by script i A).instances (after U)) (ended (AtFault i U) A)).end ≡ AtLimit
-                → slice_get (cond b (chosen_by script n (suc i) (fire A U)) []) k
-                ≡ Some (chosen_from specification turns (cond b (fired U (outcome_by script i A).instances (after U)) (ended (AtFault i U) A)).last (record { script = script; step = i + suc k }))
-            by_test true ends =
-                let less : k < n = omega (arith, low) in
-                let next : suc i + k ≡ i + suc k = omega arith in
-                chosen_here k n (suc i) (fire A U) less ends
-                ∙ ap (λ (m : ℕ). Some (chosen_from specification turns (after U).last (record { script = script; step = m }))) next
-            by_test false ends = absurd (not_faulty (AtFault i U) i U refl ends)
+    chosen_here (suc k) (suc n) i A low limit =
+        let less : k < n = omega (arith, low) in
+        let next : suc i + k ≡ i + suc k = omega arith in
+        by_result k n i A (outcome_by script i A).instances
+        (λ U ends. chosen_here k n (suc i) (fire A U) less ends
+        ∙ ap (λ (m : ℕ). Some (chosen_from specification turns (run_by script k (suc i) (fire A U)).last (record { script = script; step = m }))) next)
+        (outcome_by script i A).result limit
 
     pub chosen_at : (k n : ℕ) → k < n → (run specification turns script k).end ≡ AtLimit
         → slice_get (chosen_by script n 1 specification.initial) k ≡ Some (chosen_from specification turns (run specification turns script k).last (record { script = script; step = 1 + k }))
