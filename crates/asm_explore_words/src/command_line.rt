@@ -8,14 +8,14 @@ ghost use Rattle.clap.specs.declared.error.kind.ErrorKind.TheVariants.{ArgumentC
 ghost use Rattle.asm_arguments.specs.Numbers.{HaveNumbers};
 ghost use Rattle.asm_explore_words.specs.CommandLine as line;
 ghost use Rattle.asm_explore_words.specs.CommandLine.{command_refusals, named, random_refusals, refusals, run_refusals};
-ghost use Rattle.asm_explore_words.specs.WordsSaid.{AreParsed, AreRead, AreRunParsed, AreRunSaid, AreSaidBehind, IsQuestionRead, IsRefusal, MayHaveUnsigned, all_refusals, all_rows, are_in_range, are_run_in_range, is_task_in_range, number_options, one_run_refusals, run_number_options, run_rows, task_refusals};
+ghost use Rattle.asm_explore_words.specs.WordsSaid.{AreParsed, AreRead, AreRunParsed, AreRunSaid, AreSaidBehind, IsQuestionRead, IsRefusal, IsSeedOf, MayHaveUnsigned, all_refusals, all_rows, are_in_range, are_run_in_range, is_task_in_range, number_options, one_run_refusals, run_number_options, run_rows, task_refusals};
 
 use crate::arguments::{is_set, texts_of, unsigned_if};
 use crate::commands::{Argument, described, with_arguments};
 use crate::help;
 use crate::number_options::{OUTCOMES, RUN_STEPS, STATES, STEPS, TURNS, WORKERS};
 use crate::random_words::{random, random_settings};
-use crate::settings::{RunQuestion, RunSettings, Settings, Task, WordFault, apart, run_apart};
+use crate::settings::{RunQuestion, RunSettings, Settings, Task, WordFault, at_odds, run_at_odds};
 use crate::show_words::{show, show_settings};
 use crate::text_options::{
     ALWAYS, ALWAYS_FILE, DEADLOCK_UNLESS, DOT, DOT_ONLY, PROGRESS, QUIET, SCRIPT, TABLE, TRACE,
@@ -139,25 +139,25 @@ fn all_task<'w, S: AsStr>(alloc: Global, words: &'w [S]) -> Result<Task<'w>, Wor
     ensures refused { IfErr result (IsRefusal (all_refusals (map S.text words.entry.now))) }
 {
     let settings = all_settings(alloc, words)?;
-    if let Some(said) = apart(&settings) {
+    if let Some(said) = at_odds(&settings) {
         drop(settings);
-        return Err(are_apart(alloc, said));
+        return Err(odds_fault(alloc, said));
     }
     Ok(Task::All(settings))
 }
 
-/// The fault of words that don't go together, of which this is said.
-fn are_apart(alloc: Global, said: &'static str) -> WordFault
+/// The fault of words that are at odds, of which this is said.
+fn odds_fault(alloc: Global, said: &'static str) -> WordFault
     ensures { IsRefusal (ArgumentConflict ∷ []) result }
 {
-    match apart_error(alloc, said) {
+    match odds_error(alloc, said) {
         Ok(error) => error.into(),
         Err(error) => error.into(),
     }
 }
 
 /// This as what is wrong with the words after `all`.
-fn apart_error(alloc: Global, said: &str) -> Result<Error, Error>
+fn odds_error(alloc: Global, said: &str) -> Result<Error, Error>
     ensures conflict { IfOk result (λ error. kind_of error ≡ ArgumentConflict) }
     ensures memory { IfErr result (λ error. kind_of error ≡ OutOfMemory) }
 {
@@ -177,7 +177,7 @@ fn random_task<'w, S: AsStr>(alloc: Global, words: &'w [S]) -> Result<Task<'w>, 
     Ok(Task::Random(settings))
 }
 
-/// The same settings, whether or not they go together.
+/// The same settings, whether or not they are at odds.
 fn all_settings<'w, S: AsStr>(alloc: Global, words: &'w [S]) -> Result<Settings<'w>, Error>
     ensures in_range { IfOk result (λ s. IsTrue (are_in_range s)) }
     ensures taken { IfOk result (λ _. refusals (map S.text words.entry.now) ≡ []) }
@@ -248,15 +248,15 @@ fn run_settings<'w, S: AsStr>(
     ensures refused { IfErr result (IsRefusal (one_run_refusals asked.draws (map S.text words.entry.now))) }
 {
     let question = run_given(alloc, asked, words)?;
-    if let Some(said) = run_apart(question.run) {
+    if let Some(said) = run_at_odds(question.run) {
         drop(question);
-        return Err(run_error(alloc, asked, said)?.into());
+        return Err(run_odds_error(alloc, asked, said)?.into());
     }
     Ok(question)
 }
 
 /// This as what is wrong with the words after such a command.
-fn run_error(alloc: Global, asked: RunCommand, said: &str) -> Result<Error, Error>
+fn run_odds_error(alloc: Global, asked: RunCommand, said: &str) -> Result<Error, Error>
     ensures conflict { IfOk result (λ error. kind_of error ≡ ArgumentConflict) }
     ensures memory { IfErr result (λ error. kind_of error ≡ OutOfMemory) }
 {
@@ -266,7 +266,7 @@ fn run_error(alloc: Global, asked: RunCommand, said: &str) -> Result<Error, Erro
     Ok(error?)
 }
 
-/// The same, whether or not the settings go together.
+/// The same, whether or not the settings are at odds.
 fn run_given<'w, S: AsStr>(
     alloc: Global,
     asked: RunCommand,
@@ -291,22 +291,33 @@ fn run_read<'w>(
 ) -> Result<RunQuestion<'w>, AllocError>
     requires spec { is_some (first_value (found_of given.now) (codes "spec")) ≡ true }
     requires numbers { HaveNumbers (found_of given.now) run_number_options }
-    requires draw { IsTrue draws → MayHaveUnsigned (found_of given.now) (codes "draw") }
+    requires draw { draws ≡ true → MayHaveUnsigned (found_of given.now) (codes "draw") }
     ensures in_range { IfOk result (λ question. IsTrue (are_run_in_range question.run)) }
     ensures read { IfOk result (IsQuestionRead draws (rows_of (found_of given.now))) }
 {
-    let draw = if draws { unsigned_if(given, "draw") } else { None };
     Ok(RunQuestion {
         run: RunSettings {
             spec: given.get_str("spec").unwrap(),
             steps: number_of(given, RUN_STEPS),
             turns: number_of(given, TURNS),
             script: given.get_str("script"),
-            draw,
+            draw: seed_of(given, draws),
         },
         always: texts_of(alloc, given, "always")?,
         always_files: texts_of(alloc, given, "always-file")?,
     })
+}
+
+/// The seed by which choices are drawn, if they may be drawn.
+fn seed_of(given: &ArgMatches<'_>, draws: bool) -> Option<u64>
+    requires { draws ≡ true → MayHaveUnsigned (found_of given.now) (codes "draw") }
+    ensures { IsSeedOf draws (rows_of (found_of given.now)) result }
+{
+    if draws {
+        unsigned_if(given, "draw")
+    } else {
+        None
+    }
 }
 
 /// What the words after such a command give.

@@ -1,7 +1,7 @@
 //! What the program is asked to do.
-ghost use Rattle.std.specs.Prelude.{◌≡◌, Some, is_some, option_map};
+ghost use Rattle.std.specs.Prelude.{◌≡◌, ◌||◌, Some, is_some, option_map};
 ghost use Rattle.clap.specs.Walk.{texts};
-ghost use Rattle.asm_explore_words.specs.WordsSaid.{IsFaultOf, are_apart, are_two_in_one, is_input, is_one_file, is_over_conditions, is_over_text, is_run_apart, lacks_graph};
+ghost use Rattle.asm_explore_words.specs.WordsSaid.{IsFaultOf, are_two_in_one, chooses_twice, is_input, is_one_file, is_over_conditions, is_over_text, lacks_graph, reads_input_twice};
 ghost use Rattle.asm_explore_words.specs.declared.settings.WordFault.TheVariants.{Memory};
 
 use crate::help;
@@ -160,28 +160,29 @@ impl From<Error> for WordFault {
     }
 }
 
-/// What is to be said of settings that don't go together.
-pub(crate) fn apart(settings: &Settings<'_>) -> Option<&'static str>
-    ensures { is_some result ≡ are_apart settings.now }
+/// What is to be said of settings that are at odds.
+pub(crate) fn at_odds(settings: &Settings<'_>) -> Option<&'static str>
+    ensures { is_some result ≡ (are_two_in_one (Some settings.now.spec.now) (texts settings.now.always_files.items) (option_map (λ text. text.now) settings.now.dot) (option_map (λ text. text.now) settings.now.quiet)
+        || lacks_graph (texts settings.now.dot_only.items) (option_map (λ text. text.now) settings.now.dot)) }
 {
     let conditions = settings.always_files.as_slice();
     match two_in_one(settings.spec, conditions, settings.dot, settings.quiet) {
         Some(said) => Some(said),
-        None if is_without_graph(&settings.dot_only, settings.dot) => Some(help::ONLY_WITHOUT_DOT),
+        None if has_no_graph(&settings.dot_only, settings.dot) => Some(help::ONLY_WITHOUT_DOT),
         None => None,
     }
 }
 
-/// Whether names are given of what a node shows, and no file for a graph.
-fn is_without_graph(names: &[&str], dot: Option<&str>) -> bool
+/// Whether names are given for a graph, and no file for it.
+fn has_no_graph(names: &[&str], dot: Option<&str>) -> bool
     ensures { result ≡ lacks_graph (texts names.now) (option_map (λ text. text.now) dot.entry) }
 {
     !names.is_empty() && dot.is_none()
 }
 
-/// What is to be said of a run whose settings don't go together.
-pub(crate) fn run_apart(run: RunSettings<'_>) -> Option<&'static str>
-    ensures { is_some result ≡ is_run_apart run }
+/// What is to be said of settings of a run that are at odds.
+pub(crate) fn run_at_odds(run: RunSettings<'_>) -> Option<&'static str>
+    ensures { is_some result ≡ (reads_input_twice run.entry || chooses_twice run.entry) }
 {
     if is_standard_input(Some(run.spec)) && is_standard_input(run.script) {
         return Some(help::ONE_INPUT);

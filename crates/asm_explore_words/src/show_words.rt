@@ -13,7 +13,7 @@ use crate::arguments::{texts_of, unsigned_if};
 use crate::commands::{Argument, described, with_arguments};
 use crate::help;
 use crate::number_options::{RUN_STEPS, TURNS, WIDTH};
-use crate::settings::{RunSettings, ShowSettings, WordFault, run_apart};
+use crate::settings::{RunSettings, ShowSettings, WordFault, run_at_odds};
 use crate::text_options::{ALWAYS, ALWAYS_FILE, ONLY, SCRIPT};
 use asm_arguments::numbers::number_of;
 use clap::error::ErrorKind;
@@ -44,15 +44,15 @@ pub(crate) fn show_settings<'w, S: AsStr>(
     ensures refused { IfErr result (IsRefusal (all_show_refusals (map S.text words.entry.now))) }
 {
     let settings = show_given(alloc, words)?;
-    if let Some(said) = run_apart(settings.run) {
+    if let Some(said) = run_at_odds(settings.run) {
         drop(settings);
-        return Err(are_apart(alloc, said)?.into());
+        return Err(odds_error(alloc, said)?.into());
     }
     Ok(settings)
 }
 
 /// This as what is wrong with the words after `show`.
-fn are_apart(alloc: Global, said: &str) -> Result<Error, Error>
+fn odds_error(alloc: Global, said: &str) -> Result<Error, Error>
     ensures conflict { IfOk result (λ error. kind_of error ≡ ArgumentConflict) }
     ensures memory { IfErr result (λ error. kind_of error ≡ OutOfMemory) }
 {
@@ -62,7 +62,7 @@ fn are_apart(alloc: Global, said: &str) -> Result<Error, Error>
     Ok(error?)
 }
 
-/// The same settings, whether or not they go together.
+/// The same settings, whether or not they are at odds.
 fn show_given<'w, S: AsStr>(alloc: Global, words: &'w [S]) -> Result<ShowSettings<'w>, Error>
     ensures in_range { IfOk result (λ s. IsTrue (are_show_in_range s)) }
     ensures taken { IfOk result (λ _. show_refusals (map S.text words.entry.now) ≡ []) }
