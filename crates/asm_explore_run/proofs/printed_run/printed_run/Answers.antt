@@ -1,0 +1,1 @@
+use Rattle.asm_explore_run.proofs.printed_run.printed_run.Goals as goal
