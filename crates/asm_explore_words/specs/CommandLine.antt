@@ -130,7 +130,11 @@ run_command draws = record {
         ∷ number (steps_or_else (codes "1000"))
         ∷ number turns_option
         ∷ option (codes "script")
-        ∷ seed_before draws (repeated (option (codes "always")) ∷ repeated (option (codes "always-file")) ∷ []);
+        ∷ seed_before draws (
+        repeated (option (codes "always"))
+        ∷ repeated (option (codes "always-file"))
+        ∷ []
+        );
   };
   subs = [];
 }
