@@ -13,4 +13,5 @@ pub mod DrawnArrows
 pub mod WayLemmas
 pub mod WalkLemmas
 pub mod ShownContents
+pub mod ShownMarks
 pub mod Quoted
