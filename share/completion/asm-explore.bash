@@ -1,11 +1,11 @@
 # Completion of the words of asm-explore, for bash: source it, or let ./install put it where bash looks for it.
 # Made by share/man/make --write.
-_asm_explore_all_options=$'--steps\n--turns\n--always\n--always-file\n--deadlock-unless\n--within\n--states\n--outcomes\n--workers\n--dot\n--quiet\n--trace\n--progress\n--help\n--version'
-_asm_explore_random_options=$'--steps\n--turns\n--always\n--always-file\n--deadlock-unless\n--outcomes\n--runs\n--seed\n--trace\n--progress\n--help\n--version'
-_asm_explore_choices_options=$'--steps\n--turns\n--script\n--always\n--always-file\n--help\n--version'
+_asm_explore_all_options=$'--steps\n--turns\n--always\n--always-file\n--deadlock-unless\n--within\n--states\n--outcomes\n--workers\n--dot\n--dot-only\n--quiet\n--trace\n--table\n--progress\n--help\n--version'
+_asm_explore_random_options=$'--steps\n--turns\n--always\n--always-file\n--deadlock-unless\n--outcomes\n--runs\n--seed\n--trace\n--table\n--progress\n--help\n--version'
+_asm_explore_choices_options=$'--steps\n--turns\n--script\n--draw\n--always\n--always-file\n--help\n--version'
 _asm_explore_clash_options=$'--steps\n--turns\n--script\n--always\n--always-file\n--help\n--version'
-_asm_explore_show_options=$'--steps\n--turns\n--script\n--always\n--always-file\n--only\n--width\n--help\n--version'
-_asm_explore_plain=$'--steps\n--turns\n--always\n--deadlock-unless\n--within\n--states\n--outcomes\n--workers\n--runs\n--seed\n--only\n--width'
+_asm_explore_show_options=$'--steps\n--turns\n--script\n--draw\n--always\n--always-file\n--only\n--width\n--help\n--version'
+_asm_explore_plain=$'--steps\n--turns\n--always\n--deadlock-unless\n--within\n--states\n--outcomes\n--workers\n--dot-only\n--runs\n--seed\n--draw\n--only\n--width'
 _asm_explore() {
     local current="${COMP_WORDS[COMP_CWORD]}" before="${COMP_WORDS[COMP_CWORD - 1]}" command="${COMP_WORDS[1]}"
     local commands=$'all\nrandom\nchoices\nclash\nshow\nhelp' options=$'--help\n--version'
