@@ -14,4 +14,5 @@ pub mod WayLemmas
 pub mod WalkLemmas
 pub mod ShownContents
 pub mod ShownMarks
+pub mod NodeNames
 pub mod Quoted
