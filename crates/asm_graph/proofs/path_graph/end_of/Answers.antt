@@ -22,8 +22,8 @@ returns-then-is_same_state g c =
     let leads = subst (λ led. IfOk led (λ next. LeadsOn r A (λ B. B ≡ state_of (shape_of s) next))) c.in-Ok.is c.in_ok-next.ensures.leads in
     (refl, leads_back r A _ leads (ap (state_of (shape_of s)) (sym (c.is_same_state.ensures.0 c.if-is_same_state.true))))
 
-pub returns-in-Ok : goal.returns-in-Ok
-returns-in-Ok g c =
+pub returns-else-is_same_state : goal.returns-else-is_same_state
+returns-else-is_same_state g c =
     let m = c.args.specified.now in
     let s = spec_of m.checked.now.spec in
     let shape = shape_of s in
