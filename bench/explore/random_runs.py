@@ -339,9 +339,9 @@ class Answer(NamedTuple):
     lines: list
     found: Found
 
-    def text(self, trace=""):
-        """The whole output, perhaps with the trace of the run that was found."""
-        return within([f"# {one}" for one in [*self.comments, *trace.splitlines()]] + self.lines)
+    def text(self, trace="", table=()):
+        """The whole output, perhaps with the trace of the run that was found, and above it the comments of its table."""
+        return within([*(f"# {one}" for one in self.comments), *table, *(f"# {one}" for one in trace.splitlines()), *self.lines])
 
 
 def answer_to(machine, question, spec="-"):

@@ -227,12 +227,23 @@ def assignments(run):
     return lines[:MOST_ASSIGNMENTS] + [f"# and {len(lines) - MOST_ASSIGNMENTS} more"] * (len(lines) > MOST_ASSIGNMENTS)
 
 
+def comment(line):
+    return f"# {line}" if line else "#"
+
+
 def comments(run, asked, spec):
     yield run.end
     if isinstance(run.fault, Broken):
         yield run.fault.because
     yield call_of(run, asked.turns, spec)
     yield from Table(run, asked.only, asked.width).lines()
+
+
+def found_table(text, script, steps, turns):
+    """The comments that `all` and `random` have of a run that they found, by `--table`: its table, and the assignments by which it ends."""
+    asked = Asked(steps, turns)
+    run = run_of(text, script, asked)
+    return [*map(comment, Table(run, asked.only, asked.width).lines()), *assignments(run)]
 
 
 def run_of(text, script, asked):
@@ -242,7 +253,7 @@ def run_of(text, script, asked):
 def answered(run, asked, spec="-"):
     """What is printed of a run, and the status."""
     unmet = run.script.unmet()
-    lines = [f"# {one}" if one else "#" for one in comments(run, asked, spec)]
+    lines = list(map(comment, comments(run, asked, spec)))
     lines += assignments(run)
     lines += [f"# no choose met line {line.line} of the script: {line.text}" for line in unmet]
     script = "".join(f"{step} {shown_path(choice.path)} {choice.number}\n" for step, choice in run.choices if choice.number)

@@ -3,8 +3,9 @@
 --     WordsTell                     the words, and a line, are of the fault that is found, if there is
 --                                   one
 --     IsReport                      the first comment says what is found, the second why, if a
---                                   condition isn't true, the others are the facts, and the script is
---                                   that of the run that is found
+--                                   condition isn't true, the others are the facts, and, if they are
+--                                   asked for, the table and the trace of the run that is found; and
+--                                   the script is that of this run
 --     names_drawn settings          the names of what nodes of the graph are to show
 --     AreFilesOf files              the files for what is found of the specification with this text:
 --                                   of the graph of states and of the script to the first quiet
@@ -32,9 +33,9 @@ use Rattle.asm_explore_words.specs.declared.fault.Fault.TheVariants as fault
 use Rattle.asm_explore_words.specs.declared.settings.Settings.{Settings}
 use Rattle.asm_explore_table.specs.Tables.{IsFirstUnknown, is_known}
 use Rattle.asm_explore_report.specs.FaultWords.{BadTells, IsBroken, unwritten_words}
-use Rattle.asm_explore_report.specs.Printed.{IsPrinted}
 use Rattle.asm_explore_report.specs.Refusals.{IsQuestionRefused}
 use Rattle.asm_explore_report.specs.declared.report.Report.{Report}
+use Rattle.asm_explore_run.specs.PrintedRun.{IsPrintedRun}
 use Rattle.asm_explore_all.specs.AllFacts.{AreFacts, quiet_files, shown_in}
 use Rattle.asm_explore_all.specs.AskedQuestions.{AskedQuestion, IsExplored}
 use Rattle.asm_explore_all.specs.DrawnGraphs.{IsDrawn, drawn_in}
@@ -71,7 +72,8 @@ module _ (text : List ℕ) (conditions : Conditions) (settings : Settings) where
     pub tell : WordsTell asked.spec terms asked.turns answer.finding words because
     pub facts : List (List ℕ)
     pub are_facts : AreFacts text conditions settings answer graph facts
-    pub are_printed : IsPrinted text asked.turns settings.trace (first_line answer.finding words) (because ++ facts) (shown_in answer.finding) printed
+    pub are_printed :
+        IsPrintedRun text asked.spec asked.turns settings.table settings.trace (first_line answer.finding words) (because ++ facts) (shown_in answer.finding) printed
 
   pub record AreFilesOf (files : List MadeFile) : Type 0 where
     pub answer : ExplorationResult

@@ -21,9 +21,9 @@ use asm_explore::{ExplorationResult, Finding, Progress, Watch};
 use asm_explore_report::facts::behind;
 use asm_explore_report::fault_words::{Subject, UNWRITTEN, bad_words, first_words};
 use asm_explore_report::laws::all_asked_law;
-use asm_explore_report::printed::printed;
 use asm_explore_report::report::Report;
 use asm_explore_report::told::Told;
+use asm_explore_run::printed_run::{FoundRun, RunParts, printed_run};
 use asm_explore_texts::conditions::Conditions;
 use asm_explore_words::fault::{Fault, Unshown};
 use asm_explore_words::settings::Settings;
@@ -94,15 +94,23 @@ fn printed_of<R: Threads + Sync>(
     let first = finding_line(alloc, finding, words.as_slice())?;
     let facts = facts(alloc, text, asked, conditions, settings, answered, drawing)?;
     let lines = behind(because, facts)?;
-    let whole = printed(
+    let found = FoundRun {
+        text,
+        checked: &asked.checked,
+        turns: asked.question.turns,
+        shown: shown_run(finding),
+    };
+    let parts = RunParts {
+        table: settings.table,
+        trace: settings.trace,
+    };
+    let whole = printed_run(
         rt,
         alloc,
-        text,
-        subject.turns,
-        settings.trace,
+        found,
+        parts,
         first.as_slice(),
         lines.as_slice(),
-        shown_run(finding),
     )?;
     Ok(whole)
 }

@@ -1,3 +1,4 @@
+pub mod DrawnScripts
 pub mod RandomFacts
 pub mod RandomReport
 pub mod code

@@ -9,8 +9,9 @@
 --     random_line                what is found, in a line; these words describe the fault, if there
 --                                is one
 --     IsRandomReport             the first comment says what is found, the second why, if a condition
---                                isn't true, the others are the facts, and the script is that of the
---                                run that is found
+--                                isn't true, the others are the facts, and, if they are asked for, the
+--                                table and the trace of the run that is found; and the script is that
+--                                of this run
 --     IsRandomReported           what is printed says what is found of the specification with this
 --                                text
 --     ExplainsRandom             why there is no report: a text is refused, memory ran out, or of what
@@ -29,10 +30,10 @@ use Rattle.asm_explore_report.specs.AskedConditions.{AreAllAsked}
 use Rattle.asm_explore_texts.specs.Conditions.{MayBeAskedOf, text_of, texts_of}
 use Rattle.asm_explore_report.specs.Refusals.{IsQuestionRefused}
 use Rattle.asm_explore_report.specs.FirstLine.{fault_line, first_state_line}
-use Rattle.asm_explore_report.specs.Printed.{IsPrinted}
 use Rattle.asm_explore_report.specs.FaultWords.{BadTells, IsBroken, unwritten_words}
 use Rattle.asm_explore_texts.specs.declared.conditions.Conditions.{Conditions}
 use Rattle.asm_explore_report.specs.declared.report.Report.{Report}
+use Rattle.asm_explore_run.specs.PrintedRun.{IsPrintedRun}
 use Rattle.asm_explore_words.specs.declared.fault.Fault.{Fault}
 use Rattle.asm_explore_words.specs.declared.fault.Fault.TheVariants as fault
 use Rattle.asm_explore_words.specs.declared.settings.RandomSettings.{RandomSettings}
@@ -87,7 +88,7 @@ module _ (text : List ℕ) (conditions : Conditions) (settings : RandomSettings)
     pub because : List (List ℕ)
     pub tell : RandomTells asked.spec terms asked.turns answer.finding words because
     pub are_printed :
-        IsPrinted text asked.turns settings.trace (random_line answer.runs asked.steps answer.finding words) (because ++ random_facts conditions settings answer)
+        IsPrintedRun text asked.spec asked.turns settings.table settings.trace (random_line answer.runs asked.steps answer.finding words) (because ++ random_facts conditions settings answer)
         (shown_in answer.finding) printed
 
   pub record IsRandomReported (report : Report) : Type 0 where

@@ -16,9 +16,9 @@ use asm_explore_report::facts::behind;
 use asm_explore_report::fault_words::{Subject, UNWRITTEN, bad_words, first_words};
 use asm_explore_report::first_line::{of_fault, of_first};
 use asm_explore_report::laws::all_asked_law;
-use asm_explore_report::printed::printed;
 use asm_explore_report::report::Report;
 use asm_explore_report::told::Told;
+use asm_explore_run::printed_run::{FoundRun, RunParts, printed_run};
 use asm_explore_texts::conditions::Conditions;
 use asm_explore_words::fault::{Fault, Unshown};
 use asm_explore_words::settings::RandomSettings;
@@ -106,15 +106,23 @@ fn printed_of<R: Threads + Sync>(
     let first = line_of(alloc, answer.runs, steps, finding, words.as_slice())?;
     let facts = random_facts(alloc, conditions, settings, answer)?;
     let lines = behind(because, facts)?;
-    let whole = printed(
+    let found = FoundRun {
+        text,
+        checked: &asked.checked,
+        turns: asked.question.turns,
+        shown: shown_run(finding),
+    };
+    let parts = RunParts {
+        table: settings.table,
+        trace: settings.trace,
+    };
+    let whole = printed_run(
         rt,
         alloc,
-        text,
-        subject.turns,
-        settings.trace,
+        found,
+        parts,
         first.as_slice(),
         lines.as_slice(),
-        shown_run(finding),
     )?;
     Ok(whole)
 }

@@ -1,6 +1,7 @@
 -- Definition. What is printed: a comment that says what is found, other comments, and a script.
--- What would be too long for a script loses the lines of a trace first, then the other comments,
--- and then the script; but never its first line, and one line says what is left out.
+-- What would be too long for a script loses the lines of a trace first, then those of a table, then
+-- the other comments, and then the script; but never its first line, and one line says what is left
+-- out.
 --     IsFirstFitting texts last text    the first of the texts that is no longer than a script may
 --                                       be, or else the last one
 --     part_name part, names_of parts    what a part of a report is called, and several are
@@ -8,20 +9,14 @@
 --     left_out names                    the line that says what is left out, if anything is
 --     behind_first first others script  the first comment, the others, and the script
 --     IsReportText                      the longest of these that fits
---     AreTraceLines                     the lines of the trace of the run that is shown, if there is
---                                       one
---     IsPrinted                         a report with the script of a run, and its trace if that is
---                                       asked for
-use Rattle.std.specs.Prelude.{◌≡◌, ◌⊎◌, ◌<◌, ◌≤◌, ℕ, Bool, cond, List, [], ◌∷◌, ◌++◌, length, map, Option, Some, None, codes}
+--     IsPrinted                         a report with a table, a trace and a script
+use Rattle.std.specs.Prelude.{◌≡◌, ◌⊎◌, ◌<◌, ◌≤◌, ℕ, List, [], ◌∷◌, ◌++◌, length, map, codes}
 use Rattle.std.specs.List.{flat_map}
 use Rattle.asm_reader.specs.ScriptLines.{Script}
 use Rattle.asm_reader.specs.ScriptText.{IsScript, max_script}
 use Rattle.asm_explore_texts.specs.Comments.{comments}
 use Rattle.asm_explore_report.specs.declared.printed.Part.{Part}
 use Rattle.asm_explore_report.specs.declared.printed.Part.TheVariants as part
-use Rattle.asm_explore_report.specs.RunEnds.{IsTraceOf}
-use Rattle.asm_explore_report.specs.ShownRuns.{Shown, script_of}
-use Rattle.asm_explore_report.specs.TraceLines.{text_lines}
 
 abbrev pub IsFirstFitting : (texts : List (List ℕ)) → (last text : List ℕ) → Type 0
 IsFirstFitting [] last text = text ≡ last
@@ -31,6 +26,7 @@ IsFirstFitting (one ∷ more) last text = ((length one ≤ max_script) × (text 
 
 abbrev pub part_name : Part → List ℕ
 part_name part.Trace = codes "the trace"
+part_name part.Table = codes "the table"
 part_name part.Comments = codes "the comments"
 part_name part.Script = codes "the script"
 
@@ -50,32 +46,27 @@ left_out (name ∷ names) = (codes "left out: " ++ (name ++ flat_map (λ other. 
 abbrev pub behind_first : (first : List ℕ) → (others : List (List ℕ)) → (script : List ℕ) → List ℕ
 behind_first first others script = comments (first ∷ others) ++ script
 
-module _ (first : List ℕ) (facts trace : List (List ℕ)) (script : List ℕ) where
+module _ (first : List ℕ) (facts table trace : List (List ℕ)) (script : List ℕ) where
   abbrev pub no_trace : List (List ℕ)
   no_trace = named (codes "the trace") trace
 
+  abbrev pub no_table : List (List ℕ)
+  no_table = no_trace ++ named (codes "the table") table
+
   abbrev pub no_comments : List (List ℕ)
-  no_comments = no_trace ++ named (codes "the comments") facts
+  no_comments = no_table ++ named (codes "the comments") facts
 
   abbrev pub no_script : List (List ℕ)
   no_script = no_comments ++ named (codes "the script") script
 
   abbrev pub IsReportText : (text : List ℕ) → Type 0
   IsReportText text =
-      IsFirstFitting (behind_first first (facts ++ trace) script ∷ behind_first first (facts ++ left_out no_trace) script
-      ∷ behind_first first (left_out no_comments) script ∷ []) (comments (first ∷ left_out no_script)) text
+      IsFirstFitting (behind_first first (facts ++ (table ++ trace)) script ∷ behind_first first (facts ++ (table ++ left_out no_trace)) script
+      ∷ behind_first first (facts ++ left_out no_table) script ∷ behind_first first (left_out no_comments) script ∷ [])
+      (comments (first ∷ left_out no_script)) text
 
--- ---- the run that is shown
-
-module _ (text : List ℕ) (turns : ℕ) where
-  abbrev pub AreTraceLines : Option Shown → (lines : List (List ℕ)) → Type 0
-  AreTraceLines None lines = lines ≡ []
-  AreTraceLines (Some shown) lines = (trace : List ℕ) × IsTraceOf text shown.0 turns shown.1 trace × (lines ≡ text_lines trace)
-
-  pub record IsPrinted (asks : Bool) (first : List ℕ) (facts : List (List ℕ)) (shown : Option Shown) (printed : List ℕ) : Type 0 where
-    pub trace : List (List ℕ)
-    pub traced : AreTraceLines (cond asks shown None) trace
-    pub is : IsReportText first facts trace (script_of shown) printed
-    -- it spells the script, unless even with nothing else behind the first line that is too long
-    pub says : (script : Script) → IsScript (script_of shown) script
-        → IsScript printed script ⊎ (max_script < length (behind_first first (left_out (no_comments first facts trace (script_of shown))) (script_of shown)))
+  pub record IsPrinted (printed : List ℕ) : Type 0 where
+    pub is : IsReportText printed
+    -- it spells what the script does, unless even with nothing else behind the first line that is
+    -- too long
+    pub says : (said : Script) → IsScript script said → IsScript printed said ⊎ (max_script < length (behind_first first (left_out no_comments) script))

@@ -1,7 +1,10 @@
--- Definition. A text as lines.
+-- Definition. A text as lines, and the lines of a trace.
 --     text_lines text      its lines, each without the line feed that ends it; what is after the
 --                          last one is a line, unless it is empty
-use Rattle.std.specs.Prelude.{◌==◌, ℕ, List, [], ◌∷◌, ◌++◌, cond}
+--     AreTraceLines        the lines of the trace of the run that is shown, if there is one
+use Rattle.std.specs.Prelude.{◌≡◌, ◌==◌, ℕ, List, [], ◌∷◌, ◌++◌, Option, Some, None, cond}
+use Rattle.asm_explore_report.specs.RunEnds.{IsTraceOf}
+use Rattle.asm_explore_report.specs.ShownRuns.{Shown}
 
 abbrev pub rest_lines : (line : List ℕ) → List (List ℕ)
 rest_lines [] = []
@@ -14,3 +17,9 @@ lines_behind (byte ∷ bytes) line = cond (byte == 10) (line ∷ lines_behind by
 
 abbrev pub text_lines : List ℕ → List (List ℕ)
 text_lines text = lines_behind text []
+
+-- ---- the run that is shown
+
+abbrev pub AreTraceLines : (text : List ℕ) → (turns : ℕ) → Option Shown → (lines : List (List ℕ)) → Type 0
+AreTraceLines text turns None lines = lines ≡ []
+AreTraceLines text turns (Some shown) lines = (trace : List ℕ) × IsTraceOf text shown.0 turns shown.1 trace × (lines ≡ text_lines trace)

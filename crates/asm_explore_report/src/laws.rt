@@ -1,12 +1,15 @@
-//! Laws of joined conditions.
-ghost use Rattle.std.specs.Prelude.{◌≡◌, ℕ, List, Option, Some};
+//! Laws of joined conditions, and of comments before a script.
+ghost use Rattle.std.specs.Prelude.{◌≡◌, ◌≤◌, ◌++◌, ℕ, List, Option, Some, length};
 ghost use Rattle.std.specs.List.{list_all};
 ghost use Rattle.asm_state.specs.Location.{State};
 ghost use Rattle.asm_state.specs.declared.operation.Op.{Op};
+ghost use Rattle.asm_reader.specs.ScriptLines.{Script};
+ghost use Rattle.asm_reader.specs.ScriptText.{IsScript, max_script};
 ghost use Rattle.asm_syntax.specs.code.Views.{spec_of, test_of};
 ghost use Rattle.asm_syntax.specs.declared.term.Term.{Term};
 ghost use Rattle.asm_check.specs.declared.checked.Checked.{Checked};
 ghost use Rattle.asm_explore.specs.code.ResolvedConditions.{term_holds};
+ghost use Rattle.asm_explore_texts.specs.Comments.{comments};
 ghost use Rattle.asm_explore_texts.specs.code.CodedConditions.{AreAnds, IsJoined, terms_in};
 ghost use Rattle.asm_explore_report.specs.AskedConditions.{AreAllAsked};
 ghost use Rattle.asm_explore_report.specs.code.JoinedConditions.{AreAllJoined};
@@ -28,4 +31,11 @@ pub fn joined_law(checked: &Checked)
 pub fn all_asked_law()
     ensures { (texts : List (List ℕ)) (checked : Checked) (t : Option Term) (joined : AreAllJoined texts checked t) →
         AreAllAsked texts (spec_of checked.spec) (test_of t) (terms_in joined.links) }
+{}
+
+/// Comments before the text of a script say the same script, unless all is longer than a script may
+/// be.
+pub fn comments_law()
+    ensures { (text : List ℕ) (script : Script) → IsScript text script →
+        (lines : List (List ℕ)) → length (comments lines ++ text) ≤ max_script → IsScript (comments lines ++ text) script }
 {}

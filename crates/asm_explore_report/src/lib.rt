@@ -17,4 +17,4 @@ pub mod printed;
 pub mod report;
 pub mod shown_run;
 pub mod told;
-mod trace_lines;
+pub mod trace_lines;

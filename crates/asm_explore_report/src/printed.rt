@@ -1,26 +1,22 @@
 //! What is printed: a comment that says what is found, other comments, and a script.
 //!
 //! A text that would be too long for a script is made again without the lines of the trace, then
-//! without the other comments, and then without the script.
-ghost use Rattle.std.specs.Prelude.{◌≡◌, ◌∷◌, ◌++◌, ◌<◌, ◌≤◌, length, codes, cond, None, IfOk, IsFalse, IsTrue, OnOk};
+//! without the table, then without the other comments, and then without the script.
+ghost use Rattle.std.specs.Prelude.{◌≡◌, ◌∷◌, ◌++◌, ◌<◌, ◌≤◌, ℕ, List, length, codes, IfOk, IsFalse, IsTrue, OnOk};
 ghost use Rattle.std.specs.List.{flat_map};
 ghost use Rattle.asm_reader.specs.ScriptText.{max_script};
 ghost use Rattle.asm_explore_texts.specs.Comments.{comments as comments_of, lines_of};
-ghost use Rattle.asm_explore_report.specs.Printed.{IsPrinted, IsReportText, behind_first as text_behind, left_out as lines_left, named, names_of, no_comments, no_script, no_trace, part_name};
-ghost use Rattle.asm_explore_report.specs.ShownRuns.{script_of as script_in, shown_of};
+ghost use Rattle.asm_explore_report.specs.Printed.{IsPrinted, IsReportText, behind_first as text_behind, left_out as lines_left, named, names_of, no_comments, no_script, no_table, no_trace, part_name};
 
-use crate::shown_run::ShownRun;
-use crate::trace_lines::trace_lines;
 use asm_explore_texts::comment::{add_comments, comments};
-use asm_explore_words::fault::Unshown;
 use asm_reader::MAX_SCRIPT;
 use std::alloc::{AllocError, Global};
-use std::thread::Threads;
 
 /// A part of a report that may be left out.
 #[derive(Clone, Copy, Debug, PartialEq, Eq)]
 pub(crate) enum Part {
     Trace,
+    Table,
     Comments,
     Script,
 }
@@ -32,6 +28,7 @@ impl Part {
     {
         match self {
             Part::Trace => "the trace",
+            Part::Table => "the table",
             Part::Comments => "the comments",
             Part::Script => "the script",
         }
@@ -48,12 +45,12 @@ fn add_lines(parts: &mut Vec<Part>, part: Part, lines: &[Vec<u8>]) -> Result<(),
     Ok(())
 }
 
-/// Adds a script, if it has any bytes.
-fn add_script(parts: &mut Vec<Part>, script: &[u8]) -> Result<(), AllocError>
-    ensures { OnOk result (names_of parts.new.items ≡ names_of parts.old.items ++ named (codes "the script") script.now) }
+/// Adds a part that has these bytes, if there are any.
+fn add_bytes(parts: &mut Vec<Part>, part: Part, bytes: &[u8]) -> Result<(), AllocError>
+    ensures { OnOk result (names_of parts.new.items ≡ names_of parts.old.items ++ named (part_name part) bytes.now) }
 {
-    if !script.is_empty() {
-        parts.push(Part::Script)?;
+    if !bytes.is_empty() {
+        parts.push(part)?;
     }
     Ok(())
 }
@@ -97,17 +94,20 @@ pub(crate) fn text_behind_first(
     Ok(text)
 }
 
-/// A first comment, others, more of them, and after them a script.
-fn with_more(
+/// A first comment, others, a table, further comments, and after them a script.
+fn with_table(
     alloc: Global,
     first: &[u8],
     facts: &[Vec<u8>],
+    table: &[u8],
     more: &[Vec<u8>],
     script: &[u8],
 ) -> Result<Vec<u8>, AllocError>
-    ensures { IfOk result (λ text. text.items ≡ text_behind first.now (lines_of facts.now ++ lines_of more.now) script.now) }
+    ensures { (lines : List (List ℕ)) → table.now ≡ comments_of lines →
+        IfOk result (λ text. text.items ≡ text_behind first.now (lines_of facts.now ++ (lines ++ lines_of more.now)) script.now) }
 {
     let mut text = comments(alloc, first, facts)?;
+    text.extend_from_slice(table)?;
     add_comments(&mut text, more)?;
     text.extend_from_slice(script)?;
     Ok(text)
@@ -122,32 +122,62 @@ fn trace_part(alloc: Global, trace: &[Vec<u8>]) -> Result<Vec<Part>, AllocError>
     Ok(parts)
 }
 
+/// The trace and the table among what is left out, if they have any lines.
+fn table_parts(alloc: Global, table: &[u8], trace: &[Vec<u8>]) -> Result<Vec<Part>, AllocError>
+    ensures { IfOk result (λ parts. names_of parts.items ≡ named (codes "the trace") (lines_of trace.now) ++ named (codes "the table") table.now) }
+{
+    let mut parts = trace_part(alloc, trace)?;
+    add_bytes(&mut parts, Part::Table, table)?;
+    Ok(parts)
+}
+
 /// The text without the trace.
 fn without_trace(
     alloc: Global,
     first: &[u8],
     facts: &[Vec<u8>],
+    table: &[u8],
     trace: &[Vec<u8>],
     script: &[u8],
 ) -> Result<Vec<u8>, AllocError>
-    ensures { IfOk result (λ text. text.items ≡ text_behind first.now (lines_of facts.now ++ lines_left (no_trace first.now (lines_of facts.now) (lines_of trace.now) script.now)) script.now) }
+    ensures { (lines : List (List ℕ)) → table.now ≡ comments_of lines →
+        IfOk result (λ text. text.items ≡ text_behind first.now (lines_of facts.now ++ (lines ++ lines_left (no_trace first.now (lines_of facts.now) lines (lines_of trace.now) script.now))) script.now) }
 {
     let parts = trace_part(alloc, trace)?;
     let line = left_out(alloc, parts.as_slice())?;
-    with_more(alloc, first, facts, line.as_slice(), script)
+    with_table(alloc, first, facts, table, line.as_slice(), script)
 }
 
-/// The text without the trace and the other comments behind the first.
+/// The text without the trace and the table.
+fn without_table(
+    alloc: Global,
+    first: &[u8],
+    facts: &[Vec<u8>],
+    table: &[u8],
+    trace: &[Vec<u8>],
+    script: &[u8],
+) -> Result<Vec<u8>, AllocError>
+    ensures { (lines : List (List ℕ)) → table.now ≡ comments_of lines →
+        IfOk result (λ text. text.items ≡ text_behind first.now (lines_of facts.now ++ lines_left (no_table first.now (lines_of facts.now) lines (lines_of trace.now) script.now)) script.now) }
+{
+    let parts = table_parts(alloc, table, trace)?;
+    let line = left_out(alloc, parts.as_slice())?;
+    with_table(alloc, first, facts, b"", line.as_slice(), script)
+}
+
+/// The text without the trace, the table and the other comments behind the first.
 fn without_comments(
     alloc: Global,
     first: &[u8],
     facts: &[Vec<u8>],
+    table: &[u8],
     trace: &[Vec<u8>],
     script: &[u8],
 ) -> Result<Vec<u8>, AllocError>
-    ensures { IfOk result (λ text. text.items ≡ text_behind first.now (lines_left (no_comments first.now (lines_of facts.now) (lines_of trace.now) script.now)) script.now) }
+    ensures { (lines : List (List ℕ)) → table.now ≡ comments_of lines →
+        IfOk result (λ text. text.items ≡ text_behind first.now (lines_left (no_comments first.now (lines_of facts.now) lines (lines_of trace.now) script.now)) script.now) }
 {
-    let mut parts = trace_part(alloc, trace)?;
+    let mut parts = table_parts(alloc, table, trace)?;
     add_lines(&mut parts, Part::Comments, facts)?;
     let line = left_out(alloc, parts.as_slice())?;
     text_behind_first(alloc, first, line.as_slice(), script)
@@ -158,14 +188,16 @@ fn first_alone(
     alloc: Global,
     first: &[u8],
     facts: &[Vec<u8>],
+    table: &[u8],
     trace: &[Vec<u8>],
     script: &[u8],
 ) -> Result<Vec<u8>, AllocError>
-    ensures { IfOk result (λ text. text.items ≡ comments_of (first.now ∷ lines_left (no_script first.now (lines_of facts.now) (lines_of trace.now) script.now))) }
+    ensures { (lines : List (List ℕ)) → table.now ≡ comments_of lines →
+        IfOk result (λ text. text.items ≡ comments_of (first.now ∷ lines_left (no_script first.now (lines_of facts.now) lines (lines_of trace.now) script.now))) }
 {
-    let mut parts = trace_part(alloc, trace)?;
+    let mut parts = table_parts(alloc, table, trace)?;
     add_lines(&mut parts, Part::Comments, facts)?;
-    add_script(&mut parts, script)?;
+    add_bytes(&mut parts, Part::Script, script)?;
     let line = left_out(alloc, parts.as_slice())?;
     comments(alloc, first, line.as_slice())
 }
@@ -178,68 +210,55 @@ pub(crate) fn fits(text: &Vec<u8>) -> bool
     text.len() <= MAX_SCRIPT
 }
 
-/// A first comment and others, the lines of a trace, and a script; of what would be too long for a
-/// script, the longest of the texts that leave something out.
+/// A first comment and others, a table, the lines of a trace, and a script; of what would be too
+/// long for a script, the longest of the texts that leave something out.
 fn report_text(
     alloc: Global,
     first: &[u8],
     facts: &[Vec<u8>],
+    table: &[u8],
     trace: &[Vec<u8>],
     script: &[u8],
 ) -> Result<Vec<u8>, AllocError>
-    ensures { IfOk result (λ text. IsReportText first.now (lines_of facts.now) (lines_of trace.now) script.now text.items) }
+    ensures { (lines : List (List ℕ)) → table.now ≡ comments_of lines →
+        IfOk result (λ text. IsReportText first.now (lines_of facts.now) lines (lines_of trace.now) script.now text.items) }
 {
-    let whole = with_more(alloc, first, facts, trace, script)?;
+    let whole = with_table(alloc, first, facts, table, trace, script)?;
     if fits(&whole) {
         return Ok(whole);
     }
     drop(whole);
-    let shorter = without_trace(alloc, first, facts, trace, script)?;
+    let shorter = without_trace(alloc, first, facts, table, trace, script)?;
     if fits(&shorter) {
         return Ok(shorter);
     }
     drop(shorter);
-    let bare = without_comments(alloc, first, facts, trace, script)?;
+    let plain = without_table(alloc, first, facts, table, trace, script)?;
+    if fits(&plain) {
+        return Ok(plain);
+    }
+    drop(plain);
+    let bare = without_comments(alloc, first, facts, table, trace, script)?;
     if fits(&bare) {
         return Ok(bare);
     }
     drop(bare);
-    first_alone(alloc, first, facts, trace, script)
+    first_alone(alloc, first, facts, table, trace, script)
 }
 
-/// The script of the run that is shown, if there is one.
-fn script_of<'r>(shown: Option<ShownRun<'r>>) -> &'r [u8]
-    ensures { result.now ≡ script_in (shown_of shown.entry) }
-{
-    match shown {
-        Some(run) => run.script,
-        None => &[],
-    }
-}
-
-/// The run that is shown, if its trace is asked for.
-fn traced_run(asks: bool, shown: Option<ShownRun<'_>>) -> Option<ShownRun<'_>>
-    ensures { shown_of result ≡ cond asks (shown_of shown.entry) None }
-{
-    if asks { shown } else { None }
-}
-
-/// A first comment and others, the lines of the trace of the run that is shown if they are asked
-/// for, and its script, if there is one.
-pub fn printed<R: Threads + Sync>(
-    rt: &R,
+/// A first comment and others, a table that is given as comments, the lines of a trace, and a
+/// script.
+pub fn printed(
     alloc: Global,
-    text: &[u8],
-    turns: u32,
-    asks: bool,
     first: &[u8],
     facts: &[Vec<u8>],
-    shown: Option<ShownRun<'_>>,
-) -> Result<Vec<u8>, Unshown>
-    ensures { IfOk result (λ whole. IsPrinted text.now turns asks first.now (lines_of facts.now) (shown_of shown.entry) whole.items) }
+    table: &[u8],
+    trace: &[Vec<u8>],
+    script: &[u8],
+) -> Result<Vec<u8>, AllocError>
+    ensures { (lines : List (List ℕ)) → table.now ≡ comments_of lines →
+        IfOk result (λ whole. IsPrinted first.now (lines_of facts.now) lines (lines_of trace.now) script.now whole.items) }
 {
-    let trace = trace_lines(rt, alloc, text, turns, traced_run(asks, shown))?;
-    let script = script_of(shown);
-    let whole = report_text(alloc, first, facts, trace.as_slice(), script)?;
+    let whole = report_text(alloc, first, facts, table, trace, script)?;
     Ok(whole)
 }

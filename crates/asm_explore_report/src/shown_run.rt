@@ -1,7 +1,7 @@
 //! The run that a report shows.
-ghost use Rattle.std.specs.Prelude.{◌≡◌};
+ghost use Rattle.std.specs.Prelude.{◌≡◌, cond, None};
 ghost use Rattle.asm_explore.specs.Search.{steps_to};
-ghost use Rattle.asm_explore_report.specs.ShownRuns.{first_state as first_shown, shown, shown_bad};
+ghost use Rattle.asm_explore_report.specs.ShownRuns.{first_state as first_shown, script_of as script_in, shown, shown_bad, shown_of};
 
 use asm_explore::{BadRun, Fault};
 
@@ -40,4 +40,21 @@ pub fn first_state() -> ShownRun<'static>
         script: &[],
         steps: 0,
     }
+}
+
+/// The script of the run that is shown, if there is one.
+pub fn script_of<'r>(shown: Option<ShownRun<'r>>) -> &'r [u8]
+    ensures { result.now ≡ script_in (shown_of shown.entry) }
+{
+    match shown {
+        Some(run) => run.script,
+        None => &[],
+    }
+}
+
+/// The run that is shown, if something of it is asked for.
+pub fn if_asked(asks: bool, shown: Option<ShownRun<'_>>) -> Option<ShownRun<'_>>
+    ensures { shown_of result ≡ cond asks (shown_of shown.entry) None }
+{
+    if asks { shown } else { None }
 }

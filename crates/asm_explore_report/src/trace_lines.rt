@@ -1,9 +1,8 @@
 //! The trace of the run that is shown, line by line.
 ghost use Rattle.std.specs.Prelude.{◌≡◌, ◌==◌, ◌≤◌, [], ◌∷◌, ◌++◌, length, slice_range, IfOk, OnOk};
 ghost use Rattle.asm_explore_texts.specs.Comments.{lines_of};
-ghost use Rattle.asm_explore_report.specs.Printed.{AreTraceLines};
 ghost use Rattle.asm_explore_report.specs.ShownRuns.{shown_of};
-ghost use Rattle.asm_explore_report.specs.TraceLines.{text_lines};
+ghost use Rattle.asm_explore_report.specs.TraceLines.{AreTraceLines, text_lines};
 
 use crate::confirm_run::made;
 use crate::shown_run::ShownRun;
@@ -56,7 +55,7 @@ fn add_lines(alloc: Global, lines: &mut Vec<Vec<u8>>, text: &[u8]) -> Result<(),
 }
 
 /// The lines of the trace of the run that is shown, if there is one. The run is made again.
-pub(crate) fn trace_lines<R: Threads + Sync>(
+pub fn trace_lines<R: Threads + Sync>(
     rt: &R,
     alloc: Global,
     text: &[u8],

@@ -1,7 +1,12 @@
 -- Free. What is shown of a run.
 --     shown_text       the comments of a run that is shown, and its script
-use Rattle.std.proofs.Common.{◌≡◌, ◌∙◌, ◌++◌, ◌∷◌, ℕ, List, ap, append_assoc, sym}
+--     shown_says       they say the same as the script alone, unless they are too long for one
+use Rattle.std.proofs.Common.{◌≡◌, ◌∙◌, ◌++◌, ◌∷◌, ◌<◌, ◌≤◌, ℕ, List, ap, append_assoc, inl, inr, length, subst, sym}
+use Rattle.std.proofs.lemmas.Bool.{cases_lt}
 use Rattle.std.proofs.lemmas.Grind.{flat_map-append}
+use Rattle.std.specs.Prelude.{◌⊎◌}
+use Rattle.asm_reader.specs.ScriptLines.{Script}
+use Rattle.asm_reader.specs.ScriptText.{IsScript, max_script}
 use Rattle.asm_explore_texts.specs.Comments.{comment, comments}
 
 module _ (first : List ℕ) (because : List (List ℕ)) (call : List ℕ) (table assignments unmet : List (List ℕ)) (part : List ℕ) where
@@ -23,3 +28,15 @@ module _ (first : List ℕ) (because : List (List ℕ)) (call : List ℕ) (table
       f ∙ ap (λ t. t ++ part)
       (e ∙ ap (λ t. t ++ comments unmet) (d ∙ ap (λ t. t ++ comments assignments) (c ∙ ap (λ t. t ++ comments table) (b ∙ ap (λ t. t ++ comment call) a)))
       ∙ together (comments (first ∷ because)) (comment call) (comments table) (comments assignments) (comments unmet) ∙ sym apart)
+
+-- the law of the crate of reports
+abbrev CommentsLaw : Type 0
+CommentsLaw = (text : List ℕ) (script : Script) → IsScript text script → (lines : List (List ℕ)) → length (comments lines ++ text) ≤ max_script → IsScript (comments lines ++ text) script
+
+pub shown_says : CommentsLaw → (lines : List (List ℕ)) (part printed : List ℕ) → printed ≡ comments lines ++ part → (said : Script) → IsScript part said
+    → IsScript printed said ⊎ (max_script < length printed)
+shown_says law lines part printed is said spelled = go (cases_lt max_script (length printed))
+  where
+    go : (max_script < length printed) ⊎ (length printed ≤ max_script) → IsScript printed said ⊎ (max_script < length printed)
+    go (inl long) = inr long
+    go (inr fits) = inl (subst (λ t. IsScript t said) (sym is) (law part said spelled lines (subst (λ t. length t ≤ max_script) is fits)))

@@ -5,8 +5,6 @@
 --     of_showing          the run of both can't be shown
 --     of_shown            nor as a table
 use Rattle.std.proofs.Common.{ℕ, List, inl, inr}
-use Rattle.asm_reader.specs.ScriptLines.{Script}
-use Rattle.asm_reader.specs.ScriptText.{IsScript}
 use Rattle.asm_syntax.specs.SourceTree.{Spec}
 use Rattle.asm_run.specs.Headline.{IsAccepted}
 use Rattle.asm_explore_texts.specs.RefusedTexts.{ExplainsText, IsOneRefused, IsScriptRefused}
@@ -18,9 +16,8 @@ use Rattle.asm_explore_words.specs.declared.fault.Unshown.{Unshown}
 use Rattle.asm_explore_words.specs.declared.fault.Unshown.TheVariants as unshown
 use Rattle.asm_explore_words.specs.declared.settings.RunSettings.{RunSettings}
 use Rattle.asm_explore_words.specs.declared.settings.ShowSettings.{ShowSettings}
-use Rattle.asm_explore_texts.specs.declared.conditions.Condition.{Condition}
 use Rattle.asm_explore_report.specs.Refusals.{IsSpecificationRefused}
-use Rattle.asm_explore_run.specs.RunReport.{ExplainsRun}
+use Rattle.asm_explore_run.specs.RunReport.{AreTextsTaken, ExplainsRun}
 use Rattle.asm_explore_run.specs.ShowReport.{ExplainsShow, IsWithoutRefusal}
 
 module _ (text script_text : List ℕ) (conditions : List Condition) (settings : RunSettings) where
@@ -49,9 +46,9 @@ module _ (text script_text : List ℕ) (conditions : List Condition) (settings :
     of_condition (fault.QuietScript name) h = absurd h.1
     of_condition (fault.Name name) h = absurd h.1
 
-    pub of_showing : (why : Unshown) (script : Script) → IsScript script_text script → ExplainsRun text script_text conditions settings (fault_of_unshown why)
-    of_showing unshown.Memory script spelled = tt
-    of_showing unshown.Unconfirmed script spelled = ((tree, accepted), (script, spelled))
+  pub of_showing : (why : Unshown) → AreTextsTaken text script_text conditions settings → ExplainsRun text script_text conditions settings (fault_of_unshown why)
+  of_showing unshown.Memory is = tt
+  of_showing unshown.Unconfirmed is = is
 
 pub of_shown : (text script_text : List ℕ) (conditions : List Condition) (settings : ShowSettings) (why : Unshown) → IsWithoutRefusal text script_text conditions settings
     → ExplainsShow text script_text conditions settings (fault_of_unshown why)

@@ -1,6 +1,7 @@
 pub mod AskedRun
 pub mod ChoicesText
 pub mod ClashText
+pub mod PrintedRun
 pub mod RunReport
 pub mod ShowReport
 pub mod ShownRun

@@ -12,6 +12,7 @@
 --                                     why; or how the run ends, and one for each assignment by which
 --                                     it does, as many as fit into a script
 --     IsClashReported                 what is printed is the one or the other
+--     AreTextsTaken                   no text is refused, nor a condition
 --     ExplainsRun                     why there is no report: a text is refused, memory ran out, or
 --                                     the run of texts that aren't is refused
 use Rattle.std.specs.Prelude.{◌≡◌, ◌⊎◌, ℕ, Bool, List, [], ◌∷◌, ⊤}
@@ -117,11 +118,19 @@ module _ (text script_text : List ℕ) (conditions : List Condition) (settings :
 -- ---- without a report
 
 module _ (text script_text : List ℕ) (conditions : List Condition) (settings : RunSettings) where
+  pub record AreTextsTaken : Type 0 where
+    pub tree : Spec
+    pub accepted : IsAccepted text tree
+    pub script : Script
+    pub spelled : IsScript script_text script
+    pub terms : List Term
+    pub are_terms : AreAskedOf tree (texts_of conditions) terms
+
   abbrev pub ExplainsRun : Fault → Type 0
   ExplainsRun (fault.Text refused) =
       IsRunRefused text settings.spec.now script_text settings refused ⊎ ((tree : Spec) × IsAccepted text tree × IsOneRefused tree conditions refused)
   ExplainsRun fault.Memory = ⊤
-  ExplainsRun fault.Unconfirmed = ((tree : Spec) × IsAccepted text tree) × ((script : Script) × IsScript script_text script)
+  ExplainsRun fault.Unconfirmed = AreTextsTaken
   ExplainsRun (fault.Graph name) = ⊥
   ExplainsRun (fault.QuietScript name) = ⊥
   ExplainsRun (fault.Name name) = ⊥

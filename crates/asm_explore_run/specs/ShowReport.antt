@@ -4,16 +4,18 @@
 --                               that it is left out, where it can't be written
 --     IsShowText                comments: how the run ends, and why; a call of `asm` that makes it;
 --                               the table; the assignments by which it ends; and the lines of the
---                               given script that name no choice. Behind them stands the script
+--                               given script that name no choice. Behind them stands the script;
+--                               and all that is printed is one that says the same, unless it is too
+--                               long
 --     IsShown                   the run that settings ask for is shown so
 --     IsWithoutRefusal          no text is refused, and each name is known that is to be shown
 --     ExplainsShow              why there is no report: a text is refused; no location has a name
 --                               that is to be shown, nor the function of one; memory ran out; or the
 --                               run of texts that aren't refused is
-use Rattle.std.specs.Prelude.{◌≡◌, ◌⊎◌, All, ℕ, true, List, [], ◌∷◌, ◌++◌, map, codes, ⊤}
+use Rattle.std.specs.Prelude.{◌≡◌, ◌⊎◌, ◌<◌, All, ℕ, true, List, [], ◌∷◌, ◌++◌, length, map, codes, ⊤}
 use Rattle.asm_syntax.specs.SourceTree.{Spec, Term}
 use Rattle.asm_reader.specs.ScriptLines.{Script}
-use Rattle.asm_reader.specs.ScriptText.{IsScript}
+use Rattle.asm_reader.specs.ScriptText.{IsScript, max_script}
 use Rattle.asm_meaning.specs.Declarations.{specification_of}
 use Rattle.asm_run.specs.Headline.{IsAccepted}
 use Rattle.asm_explore.specs.ChosenLines.{AreTooLong, IsChosenText, chosen_lines}
@@ -52,6 +54,8 @@ module _ (tree : Spec) (turns : ℕ) (script : Script) where
     pub is :
         let behind = end.because ++ (command end.steps turns spec ∷ (table ++ (end.assignments ++ unmet))) in
         printed ≡ comments (end.first ∷ behind) ++ part
+    -- it spells what this part does, unless it is too long for a script
+    pub says : (said : Script) → IsScript part said → IsScript printed said ⊎ (max_script < length printed)
 
 module _ (text script_text : List ℕ) (conditions : List Condition) (settings : ShowSettings) where
   pub record IsShown (report : Report) : Type 0 where

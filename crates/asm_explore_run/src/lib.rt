@@ -1,4 +1,5 @@
-//! What the commands `choices`, `clash` and `show` of `asm-explore` report of one run.
+//! What the commands `choices`, `clash` and `show` of `asm-explore` report of one run, and what a
+//! report shows of a run that is found.
 #![tactic(auto)]
 
 mod asked_end;
@@ -9,6 +10,7 @@ mod choose_line;
 pub mod clash_report;
 mod clash_text;
 mod line_keys;
+pub mod printed_run;
 mod run_end;
 pub mod show_report;
 mod show_text;

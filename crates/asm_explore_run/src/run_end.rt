@@ -1,4 +1,4 @@
-//! How the run ends that the settings of `choices`, `clash` and `show` ask for.
+//! How a run ends, and that which the settings of `choices`, `clash` and `show` ask for.
 ghost use Rattle.std.specs.Prelude.{IfOk};
 ghost use Rattle.asm_syntax.specs.code.Views.{spec_of};
 ghost use Rattle.asm_reader.specs.ScriptLines as lines;
@@ -26,17 +26,19 @@ pub(crate) struct ToldEnd {
     pub(crate) line: Vec<u8>,
 }
 
-/// How the run that the settings ask for ends.
+/// How the run of the specification with this text under the script with that one ends, of at most
+/// `steps` steps.
 pub(crate) fn ended<R: Threads + Sync>(
     rt: &R,
     alloc: Global,
     text: &[u8],
     script: &[u8],
-    settings: &RunSettings<'_>,
+    turns: u32,
+    steps: u32,
 ) -> Result<EndedRun, Unshown>
-    ensures { IfOk result (λ ended. IsEndOf text.now script.now settings.now.turns settings.now.steps ended.end) }
+    ensures { IfOk result (λ ended. IsEndOf text.now script.now turns steps ended.end) }
 {
-    match ended_run(rt, alloc, text, script, settings.turns, settings.steps) {
+    match ended_run(rt, alloc, text, script, turns, steps) {
         Ok(ended) => Ok(ended),
         Err(RunError::Memory | RunError::Write) => Err(Unshown::Memory),
         Err(_) => Err(Unshown::Unconfirmed),
@@ -59,8 +61,9 @@ pub(crate) fn told_end<R: Threads + Sync>(
 {
     one_tree();
     one_script();
-    let ended = ended(rt, alloc, text, script_text, settings)?;
-    let line = ended.line(alloc, checked, settings.steps)?;
+    let (turns, steps) = (settings.turns, settings.steps);
+    let ended = ended(rt, alloc, text, script_text, turns, steps)?;
+    let line = ended.line(alloc, checked, steps)?;
     let end = ended.end;
     Ok(ToldEnd { end, line })
 }

@@ -12,6 +12,7 @@ use crate::shown_end::ShownEnd;
 use asm_check::Checked;
 use asm_explore::{ResolvedQuestion, chosen_text};
 use asm_explore_report::command::command;
+use asm_explore_report::laws::comments_law;
 use asm_explore_table::table::{TableSettings, add_table};
 use asm_explore_texts::comment::{add_comment, add_comments, comments};
 use asm_explore_words::settings::ShowSettings;
@@ -76,6 +77,7 @@ pub(crate) fn show_text(
 ) -> Result<Vec<u8>, AllocError>
     ensures { IfOk result (λ text. IsShowText (spec_of checked.now.spec) settings.now.run.turns script.now settings.now.run.spec.now (names_shown settings.now) (end_said end.now) (lines_of unmet.now) text.items) }
 {
+    comments_law();
     let (steps, turns) = (end.steps, settings.run.turns);
     let mut text = comments(alloc, end.first.as_slice(), end.because.as_slice())?;
     let call = command(alloc, u64::from(steps), turns, settings.run.spec)?;

@@ -1,4 +1,4 @@
-//! The assignments by which a run that is shown ends.
+//! The assignments by which a run ends that is shown as a table.
 ghost use Rattle.std.specs.Prelude.{◌≡◌, ◌-◌, ◌≤◌, ◌++◌, ℕ, List, length, IfOk, OnOk};
 ghost use Rattle.asm_syntax.specs.code.Views.{spec_of};
 ghost use Rattle.asm_meaning.specs.Declarations.{specification_of};
@@ -14,7 +14,6 @@ use crate::clash_report::{assignments, count_of};
 use asm_check::Checked;
 use asm_clash::assignment::Assignment;
 use asm_clash::clash::clash_of_run;
-use asm_explore_words::settings::RunSettings;
 use asm_reader::Script;
 use asm_run::end::End;
 use std::alloc::{AllocError, Global};
@@ -53,21 +52,21 @@ fn add_more(alloc: Global, lines: &mut Vec<Vec<u8>>, rest: u64) -> Result<(), Al
     Ok(())
 }
 
-/// A line for each of the first assignments by which the run ends that the settings ask for, and one
-/// for the others.
+/// A line for each of the first assignments by which the run of a specification under a script ends,
+/// of at most `steps` steps, and one for the others.
 pub(crate) fn assignments_shown(
     alloc: Global,
     text: &[u8],
     checked: &Checked,
     script: &Script,
-    settings: &RunSettings<'_>,
+    turns: u32,
+    steps: u32,
     end: &End,
 ) -> Result<Vec<Vec<u8>>, AllocError>
-    requires { IsReturned (run (specification_of (spec_of checked.now.spec)) settings.now.turns script.now settings.now.steps).end end.now }
+    requires { IsReturned (run (specification_of (spec_of checked.now.spec)) turns script.now steps).end end.now }
     ensures { let s = spec_of checked.now.spec in
-        IfOk result (λ lines. AreShownAssignments text.now s settings.now.turns script.now (run (specification_of s) settings.now.turns script.now settings.now.steps) (texts_of lines.items)) }
+        IfOk result (λ lines. AreShownAssignments text.now s turns script.now (run (specification_of s) turns script.now steps) (texts_of lines.items)) }
 {
-    let (turns, steps) = (settings.turns, settings.steps);
     let clash = clash_of_run(alloc, checked, turns, script, steps, MAX_SHOWN)?;
     let found = assignments(&clash);
     let mut lines = lines_of(alloc, text, checked, end, found)?;

@@ -89,10 +89,11 @@ fn whole_end<R: Threads + Sync>(
 {
     one_tree();
     one_script();
-    let ended = ended(rt, alloc, text, script_text, settings)?;
-    let first = ended.line(alloc, checked, settings.steps)?;
-    let assignments = assignments_shown(alloc, text, checked, script, settings, &ended.end)?;
-    let steps = steps_of(&ended.end, settings.steps)?;
+    let (turns, limit) = (settings.turns, settings.steps);
+    let ended = ended(rt, alloc, text, script_text, turns, limit)?;
+    let first = ended.line(alloc, checked, limit)?;
+    let assignments = assignments_shown(alloc, text, checked, script, turns, limit, &ended.end)?;
+    let steps = steps_of(&ended.end, limit)?;
     Ok(ShownEnd {
         first,
         because: Vec::new(alloc),

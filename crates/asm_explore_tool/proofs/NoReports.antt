@@ -9,12 +9,15 @@ use Rattle.asm_explore_all.specs.MadeFiles.{MadeFile}
 use Rattle.asm_explore_words.specs.declared.fault.Fault.{Fault}
 use Rattle.asm_explore_words.specs.declared.fault.Fault.TheVariants as cause
 use Rattle.asm_explore_words.specs.declared.fault.Source.{Source}
+use Rattle.asm_explore_words.specs.declared.settings.RunSettings.{RunSettings}
 use Rattle.asm_explore_words.specs.declared.settings.Task.{Task}
 use Rattle.asm_explore_words.specs.declared.settings.Task.TheVariants as task
+use Rattle.asm_explore_texts.specs.declared.conditions.Condition.{Condition}
 use Rattle.asm_explore_tool.specs.Faults.{IsToldOf, IsUnread}
+use Rattle.asm_explore_tool.specs.GivenTexts.{IsUndrawn}
 use Rattle.asm_explore_tool.specs.Outputs.{ExplainsTask, IsUnwritten, IsWithoutReport}
 use Rattle.asm_explore_tool.specs.declared.no_answer.NoAnswer.{NoAnswer}
-use Rattle.asm_explore_tool.specs.declared.no_answer.NoAnswer.TheVariants.{Words, NotText, Text as Refused, Memory, File, Write, Graph, QuietScript, Name, Unconfirmed}
+use Rattle.asm_explore_tool.specs.declared.no_answer.NoAnswer.TheVariants.{Words, NotText, Text as Refused, Memory, File, Write, Graph, QuietScript, Name, Draw, Unconfirmed}
 
 pub kept_alike : (known : Option (List ℕ)) → Keeps known known
 kept_alike None = tt
@@ -45,7 +48,21 @@ of_unread Names (File source) is = tt
 of_unread Names (Graph name) is = tt
 of_unread Names (QuietScript name) is = tt
 of_unread Names (Name name) is = tt
+of_unread Names (Draw seed) is = tt
 of_unread Names Unconfirmed is = tt
+
+of_draw : (settings : RunSettings) (text : List ℕ) (conditions : List Condition) (fault : NoAnswer) → IsUndrawn settings text conditions fault → IsOfReport fault
+of_draw settings text conditions (Words error) is = is
+of_draw settings text conditions NotText is = is
+of_draw settings text conditions Write is = is
+of_draw settings text conditions (Refused refused specification) is = tt
+of_draw settings text conditions Memory is = tt
+of_draw settings text conditions (File source) is = tt
+of_draw settings text conditions (Graph name) is = tt
+of_draw settings text conditions (QuietScript name) is = tt
+of_draw settings text conditions (Name name) is = tt
+of_draw settings text conditions (Draw seed) is = tt
+of_draw settings text conditions Unconfirmed is = tt
 
 module _ (contents : Text → Option (List ℕ)) (input : Option (List ℕ)) (before after : Option (List MadeFile)) where
   of_task : (asked : Task) (fault : NoAnswer) → ExplainsTask contents input before after asked fault → IsOfReport fault
@@ -54,11 +71,14 @@ module _ (contents : Text → Option (List ℕ)) (input : Option (List ℕ)) (be
   of_task (task.Random settings) fault (none, inl unread) = of_unread _ fault unread
   of_task (task.Random settings) fault (none, inr is) = of_cause is.text is.cause fault is.is
   of_task (task.Choices settings) fault (none, inl unread) = of_unread _ fault unread
-  of_task (task.Choices settings) fault (none, inr is) = of_cause is.text is.cause fault is.is
+  of_task (task.Choices settings) fault (none, inr (inl is)) = of_cause is.text is.cause fault is.is
+  of_task (task.Choices settings) fault (none, inr (inr is)) = of_draw _ is.text is.conditions fault is.undrawn
   of_task (task.Clash settings) fault (none, inl unread) = of_unread _ fault unread
-  of_task (task.Clash settings) fault (none, inr is) = of_cause is.text is.cause fault is.is
+  of_task (task.Clash settings) fault (none, inr (inl is)) = of_cause is.text is.cause fault is.is
+  of_task (task.Clash settings) fault (none, inr (inr is)) = of_draw _ is.text is.conditions fault is.undrawn
   of_task (task.Show settings) fault (none, inl unread) = of_unread _ fault unread
-  of_task (task.Show settings) fault (none, inr is) = of_cause is.text is.cause fault is.is
+  of_task (task.Show settings) fault (none, inr (inl is)) = of_cause is.text is.cause fault is.is
+  of_task (task.Show settings) fault (none, inr (inr is)) = of_draw _ is.text is.conditions fault is.undrawn
 
   module _ (old new : Option (List ℕ)) (has_failed : Bool) (words : List Text) where
     pub why_none : (fault : NoAnswer) → IsWithoutReport old new has_failed contents input before after words fault
@@ -72,4 +92,5 @@ module _ (contents : Text → Option (List ℕ)) (input : Option (List ℕ)) (be
     why_none (Graph name) none = none
     why_none (QuietScript name) none = none
     why_none (Name name) none = none
+    why_none (Draw seed) none = none
     why_none Unconfirmed none = none

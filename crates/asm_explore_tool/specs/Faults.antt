@@ -3,9 +3,10 @@
 --     IsOfFault status            it is one of these
 --     source_in fault             the source whose text can't be had, if that is why
 --     IsUnread Names fault        a text can't be had, whose source is one of these; or memory ran out
---     fault_of_report, fault_of_no_words, fault_of_read
---                                 the fault where there is no report, where words can't be had, and
---                                 where the text from a source can't be
+--     fault_of_report, fault_of_no_words, fault_of_read, fault_of_draw
+--                                 the fault where there is no report, where words can't be had, where
+--                                 the text from a source can't be, and where the script of a run can't
+--                                 that is drawn from a seed
 --     IsToldOf text report fault  it is the fault where there is no report, and may have the text of
 --                                 the specification, which is this one
 use Rattle.std.specs.Prelude.{◌≡◌, ◌≤◌, ℕ, List, Option, Some, None, IfSome, ⊤}
@@ -13,12 +14,14 @@ use Rattle.std.proofs.Common.{Vec, Global}
 use Rattle.asm_explore_words.specs.declared.fault.Fault.{Fault}
 use Rattle.asm_explore_words.specs.declared.fault.Fault.TheVariants as report
 use Rattle.asm_explore_words.specs.declared.fault.Source.{Source}
+use Rattle.asm_explore_random.specs.declared.drawn_script.Undrawn.{Undrawn}
+use Rattle.asm_explore_random.specs.declared.drawn_script.Undrawn.TheVariants as undrawn
 use Rattle.asm_files.specs.declared.fault.NoWords.{NoWords}
 use Rattle.asm_files.specs.declared.fault.NoWords.TheVariants as absent
 use Rattle.asm_files.specs.declared.fault.ReadFault.{ReadFault}
 use Rattle.asm_files.specs.declared.fault.ReadFault.TheVariants as unread
 use Rattle.asm_explore_tool.specs.declared.no_answer.NoAnswer.{NoAnswer}
-use Rattle.asm_explore_tool.specs.declared.no_answer.NoAnswer.TheVariants.{Words, NotText, Text, Memory, File, Write, Graph, QuietScript, Name, Unconfirmed}
+use Rattle.asm_explore_tool.specs.declared.no_answer.NoAnswer.TheVariants.{Words, NotText, Text, Memory, File, Write, Graph, QuietScript, Name, Draw, Unconfirmed}
 
 abbrev pub status_of : NoAnswer → ℕ
 status_of (Text refused specification) = 2
@@ -28,6 +31,7 @@ status_of Write = 3
 status_of (Graph name) = 3
 status_of (QuietScript name) = 3
 status_of (Name name) = 2
+status_of (Draw seed) = 3
 status_of Unconfirmed = 3
 status_of (Words error) = 4
 status_of NotText = 4
@@ -70,3 +74,7 @@ fault_of_no_words absent.NotText = NotText
 abbrev pub fault_of_read : Source → ReadFault → NoAnswer
 fault_of_read source unread.Memory = Memory
 fault_of_read source unread.File = File source
+
+abbrev pub fault_of_draw : (seed : ℕ) → Undrawn → NoAnswer
+fault_of_draw seed undrawn.Memory = Memory
+fault_of_draw seed undrawn.Unwritten = Draw seed

@@ -8,6 +8,11 @@
 --                                              the texts of the specification's file and of the
 --                                              script's (one may be the input); a script that isn't
 --                                              named has no bytes
+--     IsScriptOfRun settings text conditions given script
+--                                              the script of the run that settings ask for: the one
+--                                              that is given, or if its choices are drawn, that of
+--                                              the run that is drawn
+--     IsUndrawn settings text conditions fault     why there is none, if they are
 --     IsAmongFiles names source                the source is one of these files, of a condition
 --     IsRead, IsReadForRun                     the source is one of those that are read for settings
 --     IsReadForQuestion                        of a run: or one of the files of its conditions
@@ -29,11 +34,15 @@ use Rattle.asm_files.specs.Input.{IsFront, bytes_of}
 use Rattle.asm_explore_texts.specs.Conditions.{text_of, texts_of}
 use Rattle.asm_explore_texts.specs.declared.conditions.Condition.{Condition}
 use Rattle.asm_explore_texts.specs.declared.conditions.Conditions.{Conditions}
+use Rattle.asm_explore_random.specs.DrawnScripts.{ExplainsUndrawn, IsScriptDrawn}
+use Rattle.asm_explore_random.specs.declared.drawn_script.Undrawn.TheVariants.{Unwritten}
 use Rattle.asm_explore_words.specs.declared.fault.Source.{Source}
 use Rattle.asm_explore_words.specs.declared.fault.Source.TheVariants as source
 use Rattle.asm_explore_words.specs.declared.settings.RandomSettings.{RandomSettings}
 use Rattle.asm_explore_words.specs.declared.settings.RunSettings.{RunSettings}
 use Rattle.asm_explore_words.specs.declared.settings.Settings.{Settings}
+use Rattle.asm_explore_tool.specs.declared.no_answer.NoAnswer.{NoAnswer}
+use Rattle.asm_explore_tool.specs.declared.no_answer.NoAnswer.TheVariants.{Memory, Draw}
 
 -- reading goes no further: what is of this length is too long
 abbrev pub max_bytes_read : ℕ
@@ -108,3 +117,18 @@ module _ (contents : Text → Option (List ℕ)) where
     pub always : AreAlwaysGiven settings.always.items settings.always_files.items conditions.always.items
     pub when_quiet : text_of conditions.when_quiet ≡ option_map (λ text. text.now) settings.when_quiet
     pub within : conditions.within ≡ None
+
+-- ---- a script that is drawn
+
+module _ (settings : RunSettings) (text : List ℕ) (conditions : List Condition) where
+  abbrev pub IsScriptBy : (draw : Option ℕ) → (given script : List ℕ) → Type 0
+  IsScriptBy None given script = script ≡ given
+  IsScriptBy (Some seed) given script = IsScriptDrawn text conditions settings seed script
+
+  abbrev pub IsScriptOfRun : (given script : List ℕ) → Type 0
+  IsScriptOfRun given script = IsScriptBy settings.draw given script
+
+  abbrev pub IsUndrawn : NoAnswer → Type 0
+  IsUndrawn Memory = ⊤
+  IsUndrawn (Draw seed) = (settings.draw ≡ Some seed) × ExplainsUndrawn text conditions settings seed Unwritten
+  IsUndrawn fault = ⊥

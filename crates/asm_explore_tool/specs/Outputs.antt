@@ -15,6 +15,10 @@
 --                                 the fault for which there is no report for settings of `all`, of
 --                                 `random`, of one run, of the texts that are read for them; and
 --                                 what is made of the files of `all`
+--     IsUndrawnRun                the fault for which the script of a run can't be had that is to be
+--                                 drawn
+--     ExplainsRunTask, ExplainsShowTask
+--                                 a text can't be had; or it is the fault of a run, or of its drawing
 --     ExplainsTask                a text can't be had, and no file is made; or it is such a fault. The
 --                                 other commands than `all` make no file
 --     IsWithoutReport             words that are taken have no report, by this fault: nothing is
@@ -25,12 +29,13 @@
 --     IsExplained                 one of the two says why the status is what it is; for refused words
 --                                 no file is made
 use Rattle.std.specs.Prelude.{◌≡◌, ◌⊎◌, ℕ, Bool, List, [], Option, IsTrue, take}
+use Rattle.std.specs.Borrow.{Bor}
 use Rattle.std.specs.Io.KnownBytes.{Appends, Keeps}
 use Rattle.clap.specs.Kinds.{IsAmong, Kinds}
 use Rattle.clap.specs.Values.{kind_of}
 use Rattle.clap.specs.Walk.{Text}
 use Rattle.asm_explore_tool.specs.Faults.{IsToldOf, IsUnread, status_of}
-use Rattle.asm_explore_tool.specs.GivenTexts.{AreAlwaysGiven, AreGiven, AreRandomGiven, AreRunTexts, IsRead, IsReadForQuestion, IsText}
+use Rattle.asm_explore_tool.specs.GivenTexts.{AreAlwaysGiven, AreGiven, AreRandomGiven, AreRunTexts, IsRead, IsReadForQuestion, IsScriptOfRun, IsText, IsUndrawn}
 use Rattle.asm_explore_tool.specs.declared.no_answer.NoAnswer.{NoAnswer}
 use Rattle.asm_explore_tool.specs.declared.no_answer.NoAnswer.TheVariants as no_answer
 use Rattle.asm_explore_random.specs.RandomReport.{ExplainsRandom, IsRandomReported}
@@ -73,18 +78,22 @@ module _ (contents : Text → Option (List ℕ)) (input : Option (List ℕ)) whe
 
   pub record IsReportOfRun (AreReported : (text script_text : List ℕ) → List Condition → RunSettings → Report → Type 0) (question : RunQuestion) (report : Report) : Type 0 where
     pub text : List ℕ
-    pub script_text : List ℕ
-    pub are_texts : AreRunTexts contents input question.run text script_text
+    pub script_given : List ℕ
+    pub are_texts : AreRunTexts contents input question.run text script_given
     pub conditions : List Condition
     pub given : AreAlwaysGiven contents question.always.items question.always_files.items conditions
+    pub script_text : List ℕ
+    pub is_script : IsScriptOfRun question.run text conditions script_given script_text
     pub reported : AreReported text script_text conditions question.run report
 
   pub record IsReportOfShow (settings : ShowSettings) (report : Report) : Type 0 where
     pub text : List ℕ
-    pub script_text : List ℕ
-    pub are_texts : AreRunTexts contents input settings.run text script_text
+    pub script_given : List ℕ
+    pub are_texts : AreRunTexts contents input settings.run text script_given
     pub conditions : List Condition
     pub given : AreAlwaysGiven contents settings.always.items settings.always_files.items conditions
+    pub script_text : List ℕ
+    pub is_script : IsScriptOfRun settings.run text conditions script_given script_text
     pub reported : IsShown text script_text conditions settings report
 
   -- of the files that are known to be made, before and after
@@ -117,35 +126,56 @@ module _ (contents : Text → Option (List ℕ)) (input : Option (List ℕ)) whe
 
   pub record IsFaultOfRun (question : RunQuestion) (fault : NoAnswer) : Type 0 where
     pub text : List ℕ
-    pub script_text : List ℕ
-    pub are_texts : AreRunTexts contents input question.run text script_text
+    pub script_given : List ℕ
+    pub are_texts : AreRunTexts contents input question.run text script_given
     pub conditions : List Condition
     pub given : AreAlwaysGiven contents question.always.items question.always_files.items conditions
+    pub script_text : List ℕ
+    pub is_script : IsScriptOfRun question.run text conditions script_given script_text
     pub cause : Fault
     pub is : IsToldOf text cause fault
     pub explained : ExplainsRun text script_text conditions question.run cause
 
   pub record IsFaultOfShow (settings : ShowSettings) (fault : NoAnswer) : Type 0 where
     pub text : List ℕ
-    pub script_text : List ℕ
-    pub are_texts : AreRunTexts contents input settings.run text script_text
+    pub script_given : List ℕ
+    pub are_texts : AreRunTexts contents input settings.run text script_given
     pub conditions : List Condition
     pub given : AreAlwaysGiven contents settings.always.items settings.always_files.items conditions
+    pub script_text : List ℕ
+    pub is_script : IsScriptOfRun settings.run text conditions script_given script_text
     pub cause : Fault
     pub is : IsToldOf text cause fault
     pub explained : ExplainsShow text script_text conditions settings cause
+
+  -- the script of the run can't be had that is to be drawn, with conditions by these words and in
+  -- these files
+  pub record IsUndrawnRun (settings : RunSettings) (words names : List (Bor Text)) (fault : NoAnswer) : Type 0 where
+    pub text : List ℕ
+    pub script_given : List ℕ
+    pub are_texts : AreRunTexts contents input settings text script_given
+    pub conditions : List Condition
+    pub given : AreAlwaysGiven contents words names conditions
+    pub undrawn : IsUndrawn settings text conditions fault
+
+  abbrev pub ExplainsRunTask : RunQuestion → NoAnswer → Type 0
+  ExplainsRunTask question fault =
+      IsUnread (IsReadForQuestion question.run question.always_files.items) fault
+      ⊎ (IsFaultOfRun question fault ⊎ IsUndrawnRun question.run question.always.items question.always_files.items fault)
+
+  abbrev pub ExplainsShowTask : ShowSettings → NoAnswer → Type 0
+  ExplainsShowTask settings fault =
+      IsUnread (IsReadForQuestion settings.run settings.always_files.items) fault
+      ⊎ (IsFaultOfShow settings fault ⊎ IsUndrawnRun settings.run settings.always.items settings.always_files.items fault)
 
   abbrev pub ExplainsTask : (before after : Option (List MadeFile)) → Task → NoAnswer → Type 0
   ExplainsTask before after (All settings) fault =
       (IsUnread (IsRead settings.spec settings.always_files.items) fault × Makes before after []) ⊎ IsFaultOfAll before after settings fault
   ExplainsTask before after (Random settings) fault =
       Makes before after [] × (IsUnread (IsRead settings.spec settings.always_files.items) fault ⊎ IsFaultOfRandom settings fault)
-  ExplainsTask before after (Choices question) fault =
-      Makes before after [] × (IsUnread (IsReadForQuestion question.run question.always_files.items) fault ⊎ IsFaultOfRun question fault)
-  ExplainsTask before after (Clash question) fault =
-      Makes before after [] × (IsUnread (IsReadForQuestion question.run question.always_files.items) fault ⊎ IsFaultOfRun question fault)
-  ExplainsTask before after (Show settings) fault =
-      Makes before after [] × (IsUnread (IsReadForQuestion settings.run settings.always_files.items) fault ⊎ IsFaultOfShow settings fault)
+  ExplainsTask before after (Choices question) fault = Makes before after [] × ExplainsRunTask question fault
+  ExplainsTask before after (Clash question) fault = Makes before after [] × ExplainsRunTask question fault
+  ExplainsTask before after (Show settings) fault = Makes before after [] × ExplainsShowTask settings fault
 
 -- some text is written, which the library that reads the words has for them
 abbrev pub IsHelp : (IsWritten : List ℕ → Type 0) → Kinds → Type 0

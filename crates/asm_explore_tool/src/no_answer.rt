@@ -1,8 +1,9 @@
 //! Why the program doesn't write what words ask for.
 ghost use Rattle.std.specs.Prelude.{◌≡◌};
-ghost use Rattle.asm_explore_tool.specs.Faults.{IsToldOf, IsUnread, fault_of_no_words, fault_of_read, fault_of_report, status_of};
+ghost use Rattle.asm_explore_tool.specs.Faults.{IsToldOf, IsUnread, fault_of_draw, fault_of_no_words, fault_of_read, fault_of_report, status_of};
 ghost use Rattle.asm_explore_tool.specs.declared.no_answer.NoAnswer.TheVariants as no_answer;
 
+use asm_explore_random::drawn_script::Undrawn;
 use asm_explore_words::fault::{Fault, RefusedText, Source};
 use asm_files::fault::{NoWords, ReadFault};
 use clap::Error;
@@ -30,6 +31,8 @@ pub enum NoAnswer<'w> {
     QuietScript(&'w str),
     /// No function and no location has this name, which is to be shown.
     Name(&'w str),
+    /// The script of the run that is drawn from this seed can't be written.
+    Draw(u64),
     /// A run that is to be shown ends otherwise than it was found to, or it is refused though its
     /// texts are not.
     Unconfirmed,
@@ -43,7 +46,7 @@ impl<'w> NoAnswer<'w> {
         match self {
             NoAnswer::Text(..) | NoAnswer::Name(_) => 2,
             NoAnswer::Memory | NoAnswer::File(_) | NoAnswer::Write => 3,
-            NoAnswer::Graph(_) | NoAnswer::QuietScript(_) => 3,
+            NoAnswer::Graph(_) | NoAnswer::QuietScript(_) | NoAnswer::Draw(_) => 3,
             NoAnswer::Unconfirmed => 3,
             NoAnswer::Words(_) | NoAnswer::NotText => 4,
         }
@@ -60,6 +63,16 @@ impl<'w> NoAnswer<'w> {
             Fault::QuietScript(name) => NoAnswer::QuietScript(name),
             Fault::Name(name) => NoAnswer::Name(name),
             Fault::Unconfirmed => NoAnswer::Unconfirmed,
+        }
+    }
+
+    /// Where the script of a run can't be had that is drawn from this seed.
+    pub(crate) fn of_draw(seed: u64, why: Undrawn) -> NoAnswer<'w>
+        ensures { result ≡ fault_of_draw seed why }
+    {
+        match why {
+            Undrawn::Memory => NoAnswer::Memory,
+            Undrawn::Unwritten => NoAnswer::Draw(seed),
         }
     }
 

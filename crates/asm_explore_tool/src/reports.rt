@@ -2,8 +2,8 @@
 ghost use Rattle.std.specs.Prelude.{◌≡◌, ◌⊎◌, [], false, Ok, Err, IfOk, IfErr};
 ghost use Rattle.asm_explore_words.specs.declared.fault.Fault.{Fault as Cause};
 ghost use Rattle.asm_explore_tool.specs.Faults.{IsToldOf, IsUnread};
-ghost use Rattle.asm_explore_tool.specs.GivenTexts.{IsRead, IsReadForQuestion};
-ghost use Rattle.asm_explore_tool.specs.Outputs.{ExplainsTask, IsFaultOfAll, IsFaultOfRandom, IsFaultOfRun, IsFaultOfShow, IsReportOf, IsReportOfAll, IsReportOfRandom, IsReportOfRun, IsReportOfShow};
+ghost use Rattle.asm_explore_tool.specs.GivenTexts.{IsRead};
+ghost use Rattle.asm_explore_tool.specs.Outputs.{ExplainsRunTask, ExplainsShowTask, ExplainsTask, IsFaultOfAll, IsFaultOfRandom, IsReportOf, IsReportOfAll, IsReportOfRandom, IsReportOfRun, IsReportOfShow};
 ghost use Rattle.asm_explore_all.specs.MadeFiles.{Makes};
 ghost use Rattle.asm_explore_run.specs.RunReport.{AreChoicesReported, IsClashReported};
 ghost use Rattle.asm_explore_words.specs.WordsSaid.{reads_input_twice, reads_task_twice};
@@ -11,7 +11,7 @@ ghost use Rattle.asm_explore_words.specs.WordsSaid.{reads_input_twice, reads_tas
 use crate::given_texts::{always_given, conditions, random_conditions, text};
 use crate::no_answer::NoAnswer;
 use crate::progress_lines::ProgressLines;
-use crate::run_texts::run_texts;
+use crate::run_texts::{RunTexts, run_texts, script_of_run};
 use asm_explore::{Progress, Watch};
 use asm_explore_all::all_report::all_report;
 use asm_explore_all::files::NewFiles;
@@ -69,15 +69,16 @@ fn report_of_choices<'w, R: Threads + Sync, F: Folder, I: Read + Drop>(
 ) -> Result<Report, NoAnswer<'w>>
     requires { reads_input_twice question.now.run ≡ false }
     ensures report { IfOk result (IsReportOfRun (F.contents folder.now) (I.remaining input) AreChoicesReported question.now) }
-    ensures explained { IfErr result (λ fault. IsUnread (IsReadForQuestion question.now.run question.now.always_files.items) fault ⊎ IsFaultOfRun (F.contents folder.now) (I.remaining input) question.now fault) }
+    ensures explained { IfErr result (ExplainsRunTask (F.contents folder.now) (I.remaining input) question.now) }
 {
-    let texts = run_texts(folder, alloc, &question.run, input)?;
+    let RunTexts { text, script } = run_texts(folder, alloc, &question.run, input)?;
     let names = question.always_files.as_slice();
     let conditions = always_given(folder, alloc, question.always.as_slice(), names)?;
-    let (text, script) = (texts.text.as_slice(), texts.script.as_slice());
-    let asked = conditions.as_slice();
-    let report = choices_report(rt, alloc, text, script, asked, &question.run);
-    told(report, texts.text)
+    let (bytes, asked) = (text.as_slice(), conditions.as_slice());
+    let made = script_of_run(alloc, bytes, asked, &question.run, script)?;
+    let script = made.as_slice();
+    let report = choices_report(rt, alloc, bytes, script, asked, &question.run);
+    told(report, text)
 }
 
 /// The assignments by which the run ends that settings ask for.
@@ -90,15 +91,16 @@ fn report_of_clash<'w, R: Threads + Sync, F: Folder, I: Read + Drop>(
 ) -> Result<Report, NoAnswer<'w>>
     requires { reads_input_twice question.now.run ≡ false }
     ensures report { IfOk result (IsReportOfRun (F.contents folder.now) (I.remaining input) IsClashReported question.now) }
-    ensures explained { IfErr result (λ fault. IsUnread (IsReadForQuestion question.now.run question.now.always_files.items) fault ⊎ IsFaultOfRun (F.contents folder.now) (I.remaining input) question.now fault) }
+    ensures explained { IfErr result (ExplainsRunTask (F.contents folder.now) (I.remaining input) question.now) }
 {
-    let texts = run_texts(folder, alloc, &question.run, input)?;
+    let RunTexts { text, script } = run_texts(folder, alloc, &question.run, input)?;
     let names = question.always_files.as_slice();
     let conditions = always_given(folder, alloc, question.always.as_slice(), names)?;
-    let (text, script) = (texts.text.as_slice(), texts.script.as_slice());
-    let asked = conditions.as_slice();
-    let report = clash_report(rt, alloc, text, script, asked, &question.run);
-    told(report, texts.text)
+    let (bytes, asked) = (text.as_slice(), conditions.as_slice());
+    let made = script_of_run(alloc, bytes, asked, &question.run, script)?;
+    let script = made.as_slice();
+    let report = clash_report(rt, alloc, bytes, script, asked, &question.run);
+    told(report, text)
 }
 
 /// The table of the run that settings ask for.
@@ -111,15 +113,16 @@ fn report_of_show<'w, R: Threads + Sync, F: Folder, I: Read + Drop>(
 ) -> Result<Report, NoAnswer<'w>>
     requires { reads_input_twice settings.now.run ≡ false }
     ensures report { IfOk result (IsReportOfShow (F.contents folder.now) (I.remaining input) settings.now) }
-    ensures explained { IfErr result (λ fault. IsUnread (IsReadForQuestion settings.now.run settings.now.always_files.items) fault ⊎ IsFaultOfShow (F.contents folder.now) (I.remaining input) settings.now fault) }
+    ensures explained { IfErr result (ExplainsShowTask (F.contents folder.now) (I.remaining input) settings.now) }
 {
-    let texts = run_texts(folder, alloc, &settings.run, input)?;
+    let RunTexts { text, script } = run_texts(folder, alloc, &settings.run, input)?;
     let names = settings.always_files.as_slice();
     let conditions = always_given(folder, alloc, settings.always.as_slice(), names)?;
-    let (text, script) = (texts.text.as_slice(), texts.script.as_slice());
-    let asked = conditions.as_slice();
-    let report = show_report(rt, alloc, text, script, asked, settings);
-    told(report, texts.text)
+    let (bytes, asked) = (text.as_slice(), conditions.as_slice());
+    let made = script_of_run(alloc, bytes, asked, &settings.run, script)?;
+    let script = made.as_slice();
+    let report = show_report(rt, alloc, bytes, script, asked, settings);
+    told(report, text)
 }
 
 /// The report for settings of `all`.

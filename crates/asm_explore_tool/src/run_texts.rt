@@ -1,11 +1,13 @@
 //! What is read for one run: the texts of the specification and of the script.
 ghost use Rattle.std.specs.Prelude.{◌≡◌, false, IfErr, IfOk};
 ghost use Rattle.asm_explore_tool.specs.Faults.{IsUnread};
-ghost use Rattle.asm_explore_tool.specs.GivenTexts.{AreRunTexts, IsReadForRun, IsTextOfFile};
+ghost use Rattle.asm_explore_tool.specs.GivenTexts.{AreRunTexts, IsReadForRun, IsScriptOfRun, IsTextOfFile, IsUndrawn};
 ghost use Rattle.asm_explore_words.specs.WordsSaid.{reads_input_twice};
 
 use crate::given_texts::{MAX_BYTES_READ, text as text_of};
 use crate::no_answer::NoAnswer;
+use asm_explore_random::drawn_script::drawn_script;
+use asm_explore_texts::conditions::Condition;
 use asm_explore_words::fault::Source;
 use asm_explore_words::settings::RunSettings;
 use asm_files::folder::Folder;
@@ -64,5 +66,27 @@ pub(crate) fn run_texts<'w, F: Folder, I: Read + Drop>(
             let script = from_file(folder, alloc, name, Source::Script(name))?;
             Ok(RunTexts { text, script })
         }
+    }
+}
+
+/// The script of the run that settings ask for: the one that is given, or if its choices are drawn,
+/// that of the run that is drawn of the specification with this text, up to a state in which one of
+/// these conditions isn't true.
+pub(crate) fn script_of_run<'w>(
+    alloc: Global,
+    text: &[u8],
+    conditions: &[Condition<'w>],
+    settings: &RunSettings<'w>,
+    given: Vec<u8>,
+) -> Result<Vec<u8>, NoAnswer<'w>>
+    ensures script { IfOk result (λ script. IsScriptOfRun settings.now text.now conditions.now given.items script.items) }
+    ensures undrawn { IfErr result (IsUndrawn settings.now text.now conditions.now) }
+{
+    let Some(seed) = settings.draw else {
+        return Ok(given);
+    };
+    match drawn_script(alloc, text, conditions, settings, seed) {
+        Ok(script) => Ok(script),
+        Err(why) => Err(NoAnswer::of_draw(seed, why)),
     }
 }

@@ -131,9 +131,9 @@ run_command draws = record {
         ∷ number turns_option
         ∷ option (codes "script")
         ∷ seed_before draws (
-          repeated (option (codes "always"))
-          ∷ repeated (option (codes "always-file"))
-          ∷ []
+        repeated (option (codes "always"))
+        ∷ repeated (option (codes "always-file"))
+        ∷ []
         );
   };
   subs = [];

@@ -1,4 +1,5 @@
 -- Free. Runs under drafts.
+--     grown_picks      a draft with one step more picks the same in the steps before it
 --     grown_alike      of one step more the runs up to that step are those of the draft before
 --     grown_longer     a draft with one step more has that many steps
 --     fine_grown       with that step the run is as fine as it was
@@ -21,7 +22,7 @@ use Rattle.asm_random.proofs.DraftLines.{picked_pushed}
 use Rattle.asm_random.proofs.RunsSoFar.{IsFineTo}
 use Rattle.asm_random.proofs.SameRuns.{picked_until}
 
-grown_picks : (d e : Draft) → AddsStep d e → (step : ℕ) (p : List ℕ) → step < 1 + length d.steps.items
+pub grown_picks : (d e : Draft) → AddsStep d e → (step : ℕ) (p : List ℕ) → step < 1 + length d.steps.items
     → pick (exactly (draft_lines e)) step p ≡ pick (exactly (draft_lines d)) step p
 grown_picks d e adds step p low =
     ap (λ (ms : List (BTreeMap (Vec ℕ Global) ℕ)). unwrap_or (option_or (exact_choice (lines_from 1 ms) step p) None) 0) adds.1

@@ -1,8 +1,13 @@
 mod ChoicelessSteps
 mod DraftLines
 mod DraftRuns
+mod DrawnSoFar
+mod DrawnTextLines
+mod EachDrawn
 mod Endings
+mod PickedLines
 mod QuietSteps
 mod RunsSoFar
 mod SameRuns
 mod Shortened
+mod StoriesAlike

@@ -1,9 +1,12 @@
 //! The numbers of a step, drawn.
-ghost use Rattle.std.specs.Prelude.{◌≡◌, false, length, IfOk, OnOk};
+ghost use Rattle.std.specs.Prelude.{◌≡◌, false, length, IfOk, IsTrue, OnOk};
 ghost use Rattle.asm_state.specs.Signature.{count_of, state_of};
 ghost use Rattle.asm_syntax.specs.code.Views.{spec_of};
 ghost use Rattle.asm_check.specs.Shapes.{shape_of};
+ghost use Rattle.asm_explore.specs.code.AskedPieces.{all_said};
 ghost use Rattle.asm_explore.specs.code.ResolvedConditions.{IsSpecified};
+ghost use Rattle.asm_random.specs.DrawnNumbers.{drawn_number};
+ghost use Rattle.asm_random.specs.DrawnTexts.{AreDrawn};
 ghost use Rattle.asm_random.specs.code.DraftSteps.{AddsStep, ReplacesLast};
 ghost use Rattle.asm_random.specs.code.WrongSteps.{IsSameForAll};
 ghost use Rattle.asm_random.specs.code.ResolvedRuns.{shape_in, specification_in};
@@ -20,7 +23,9 @@ use std::alloc::{AllocError, Global};
 use std::collections::BTreeMap;
 
 /// The number that is drawn for a choice.
-fn drawn(source: RandomSource, step: u64, asked: &ChoicePoint) -> u64 {
+fn drawn(source: RandomSource, step: u64, asked: &ChoicePoint) -> u64
+    ensures { result ≡ drawn_number source.seed source.run step asked.now.choice.path (length asked.now.candidates.items) }
+{
     let many = asked.candidates.len() as u64;
     source.candidate(step, asked.choice.path.as_slice(), many.max(1))
 }
@@ -44,7 +49,10 @@ fn drawn_numbers(
 }
 
 /// Whether each of some choices takes the number that is drawn for it.
-fn are_drawn(source: RandomSource, step: u64, asked: &[ChoicePoint]) -> bool {
+pub(crate) fn are_drawn(source: RandomSource, step: u64, asked: &[ChoicePoint]) -> bool
+    ensures drawn { IsTrue result → AreDrawn source.seed source.run step (all_said asked.now) }
+    ensures undrawn { result ≡ false → ¬ (AreDrawn source.seed source.run step (all_said asked.now)) }
+{
     for k in 0..asked.len() {
         if asked[k].choice.number != drawn(source, step, &asked[k]) {
             return false;

@@ -1,5 +1,7 @@
 //! Numbers that are drawn.
-ghost use Rattle.std.specs.Prelude.{◌<◌};
+ghost use Rattle.std.specs.Prelude.{◌≡◌, ◌<◌, ◌*◌, ◌/◌, ◌^◌, take};
+ghost use Rattle.std.specs.Int.{from_be_bytes, w64};
+ghost use Rattle.asm_random.specs.DrawnNumbers.{drawn_number};
 
 use sha2::{Digest, Sha256};
 
@@ -19,7 +21,8 @@ impl RandomSource {
     /// of them as likely.
     pub(crate) fn candidate(self, step: u64, path: &[u64], candidates: u64) -> u64
         requires { 0 < candidates }
-        ensures { result < candidates }
+        ensures below { result < candidates }
+        ensures drawn { result ≡ drawn_number self.seed self.run step path.now candidates }
     {
         let mut digest = Sha256::new();
         digest.update(&self.seed.to_be_bytes());
@@ -33,7 +36,9 @@ impl RandomSource {
 }
 
 /// The first eight bytes of a digest as a number, the first of them the highest.
-fn eight_of(bytes: &[u8; 32]) -> u64 {
+fn eight_of(bytes: &[u8; 32]) -> u64
+    ensures { result ≡ from_be_bytes w64 (take 8 bytes.now) }
+{
     u64::from_be_bytes([
         bytes[0], bytes[1], bytes[2], bytes[3], bytes[4], bytes[5], bytes[6], bytes[7],
     ])
@@ -42,7 +47,8 @@ fn eight_of(bytes: &[u8; 32]) -> u64 {
 /// A number below another, as far along as one is among those of 64 bits.
 fn scaled(number: u64, bound: u64) -> u64
     requires { 0 < bound }
-    ensures { result < bound }
+    ensures below { result < bound }
+    ensures scaled { result ≡ number * bound / 2 ^ 64 }
 {
     let product = u128::from(number) * u128::from(bound);
     (product >> 64) as u64

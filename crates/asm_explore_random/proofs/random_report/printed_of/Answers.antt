@@ -1,7 +1,8 @@
 use Rattle.std.proofs.Common.{◌≡◌, ◌∙◌, ◌++◌, List, ℕ, Option, ap, subst}
+use Rattle.asm_syntax.specs.code.Views.{spec_of}
 use Rattle.asm_explore_texts.specs.Comments.{lines_of}
-use Rattle.asm_explore_report.specs.Printed.{IsPrinted}
 use Rattle.asm_explore_report.specs.ShownRuns.{Shown}
+use Rattle.asm_explore_run.specs.PrintedRun.{IsPrintedRun}
 use Rattle.asm_explore_random.specs.RandomFacts.{random_facts, shown_in}
 use Rattle.asm_explore_random.specs.RandomReport.{random_line}
 use Rattle.asm_explore_random.proofs.random_report.printed_of.Goals as goal
@@ -13,12 +14,13 @@ returns g c links joined =
     let told = c.in_ok-words.field-0 in
     let words = told.words.items in
     let because = lines_of told.because.items in
-    let asks = c.args.settings.now.trace in
+    let settings = c.args.settings.now in
+    let spec = spec_of c.args.asked.now.checked.spec in
     let whole = c.in_ok-whole.whole.items in
     let line = random_line answer.runs question.steps answer.finding in
     let facts = random_facts c.args.conditions.now c.args.settings.now answer in
     let lines : lines_of c.in_ok-lines.lines.items ≡ because ++ facts = c.in_ok-lines.ensures ∙ ap (λ ls. because ++ ls) c.in_ok-facts.ensures in
-    let Prints = IsPrinted c.args.text.now question.turns asks in
+    let Prints = IsPrintedRun c.args.text.now spec question.turns settings.table settings.trace in
     let first : c.as_slice-2.result.now ≡ line words = c.as_slice-2.ensures.value ∙ (c.in_ok-first.ensures ∙ ap line c.as_slice.ensures.value) in
     let others : lines_of c.as_slice-3.result.now ≡ because ++ facts = ap lines_of c.as_slice-3.ensures.value ∙ lines in
     let by_run = subst (λ (run : Option Shown). Prints c.as_slice-2.result.now (lines_of c.as_slice-3.result.now) run whole) c.shown_run.ensures c.in_ok-whole.ensures in
