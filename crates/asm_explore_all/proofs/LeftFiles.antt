@@ -1,11 +1,14 @@
 -- Free. Why there is no report, and the files that are left.
 --     of_asking       nothing can be asked
+--     of_names        the names of what nodes are to show aren't all known
 --     files_of        the files for what is found
 --     of_graph        the graph can't be drawn
 --     of_script       the script can't be written, after the graph
 --     of_printing     the report can't be given, after both are written
-use Rattle.std.proofs.Common.{ℕ, List, ◌++◌, Option, inl, inr, refl}
-use Rattle.std.specs.Prelude.{option_map}
+use Rattle.std.proofs.Common.{◌≡◌, ℕ, List, ◌++◌, Option, inl, inr, refl, true}
+use Rattle.std.specs.Prelude.{All, option_map}
+use Rattle.asm_syntax.specs.SourceTree.{Spec}
+use Rattle.asm_run.specs.Headline.{IsAccepted}
 use Rattle.asm_explore.specs.declared.exploration_result.ExplorationResult.{ExplorationResult}
 use Rattle.asm_explore_texts.specs.RefusedTexts.{ExplainsText}
 use Rattle.asm_explore_texts.specs.declared.conditions.Conditions.{Conditions}
@@ -15,9 +18,10 @@ use Rattle.asm_explore_words.specs.declared.fault.Fault.TheVariants as fault
 use Rattle.asm_explore_words.specs.declared.fault.Unshown.{Unshown}
 use Rattle.asm_explore_words.specs.declared.fault.Unshown.TheVariants as unshown
 use Rattle.asm_explore_words.specs.declared.settings.Settings.{Settings}
+use Rattle.asm_explore_table.specs.Tables.{is_known}
 use Rattle.asm_explore_report.specs.Refusals.{IsQuestionRefused}
 use Rattle.asm_explore_all.specs.AllFacts.{ExplainsScript, quiet_files}
-use Rattle.asm_explore_all.specs.DrawnGraphs.{ExplainsDrawing, IsDrawn, drawn_in}
+use Rattle.asm_explore_all.specs.DrawnGraphs.{ExplainsDrawing, ExplainsNames, IsDrawn, drawn_in}
 use Rattle.asm_explore_all.specs.AllReport.{AreFilesOf, ExplainsAll, names_drawn}
 use Rattle.asm_explore_all.specs.AskedQuestions.{IsExplored}
 use Rattle.asm_explore_all.specs.MadeFiles.{MadeFile, Makes}
@@ -31,6 +35,15 @@ of_asking text conditions settings known fault.Unconfirmed h = absurd h.1
 of_asking text conditions settings known (fault.Graph name) h = absurd h.1
 of_asking text conditions settings known (fault.QuietScript name) h = absurd h.1
 of_asking text conditions settings known (fault.Name name) h = absurd h.1
+
+pub of_names : (text : List ℕ) (conditions : Conditions) (settings : Settings) (known : Option (List MadeFile)) (s : Spec) → IsAccepted text s → (why : Fault)
+    → ExplainsNames s (names_drawn settings) why → ExplainsAll text conditions settings known known why
+of_names text conditions settings known s accepted (fault.Name name) first = ((s, accepted, first), makes_none known)
+of_names text conditions settings known s accepted fault.Memory h = inl (makes_none known)
+of_names text conditions settings known s accepted (fault.Text refused) h = absurd h
+of_names text conditions settings known s accepted (fault.Graph name) h = absurd h
+of_names text conditions settings known s accepted (fault.QuietScript name) h = absurd h
+of_names text conditions settings known s accepted fault.Unconfirmed h = absurd h
 
 abbrev graph_name : Settings → Option (List ℕ)
 graph_name settings = option_map (λ name. name.now) settings.dot

@@ -83,7 +83,10 @@ fn message<W: Write>(fault: &NoAnswer<'_>, out: &mut W) -> fmt::Result {
         }
         NoAnswer::Name(name) => unknown("--only", name, out),
         NoAnswer::Draw(seed) => {
-            writeln!(out, "asm-explore: --draw {seed}: the script of the run can't be written")
+            writeln!(
+                out,
+                "asm-explore: --draw {seed}: the script of the run can't be written"
+            )
         }
         NoAnswer::Unconfirmed => {
             out.write_str("asm-explore: an error of this program: the script leads to no fault\n")

@@ -13,4 +13,6 @@ pub mod DrawnArrows
 pub mod WayLemmas
 pub mod WalkLemmas
 pub mod ShownContents
+pub mod ShownMarks
+pub mod NodeNames
 pub mod Quoted

@@ -1,6 +1,7 @@
 -- Definition. What is written in a node.
 --     value_text s v, location_text s l   a value, and a location, as the specification s writes
 --                                         them
+--     NamedLaw                            a location is named by what is written of it in a node
 --     content_lines s l v                 a line for a location that isn't undef, and else none
 --     shown_by s names l                  a location is shown: one that is named, or any, if there
 --                                         are no names. A name is that of a location, or of its
@@ -10,7 +11,7 @@
 --     shortened lines                     twelve of them at most, and `..` for the others
 --     node_label s names i A step         the number of a node, its state, and whether its step
 --                                         has too many outcomes
-use Rattle.std.specs.Prelude.{ℕ, Bool, true, false, ◌&&◌, cond, List, [], ◌∷◌, ◌++◌, length, take, slice_index_or, nat_le, if◌then◌else◌, codes, decimal}
+use Rattle.std.specs.Prelude.{◌≡◌, ℕ, Bool, true, false, ◌&&◌, cond, List, [], ◌∷◌, ◌++◌, length, take, slice_index_or, nat_le, if◌then◌else◌, codes, decimal}
 use Rattle.std.specs.List.{flat_map, join_by}
 use Rattle.std.specs.Fmt.{signed_decimal}
 use Rattle.asm_state.specs.declared.value.Value.{Value}
@@ -45,6 +46,9 @@ arguments_text s (v ∷ vs) = codes "(" ++ (join_by (value_text s) (codes ", ") 
 abbrev pub location_text : Spec → Location → List ℕ
 location_text s (Proper f vs) = function_text s f ++ arguments_text s vs
 location_text s (Stray f) = function_text s f
+
+abbrev pub NamedLaw : Type 0
+NamedLaw = (s : Spec) (l : Location) → is_named s (location_text s l ∷ []) l ≡ true
 
 abbrev pub content_lines : Spec → Location → Value → List (List ℕ)
 content_lines s l Undef = []

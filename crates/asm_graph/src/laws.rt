@@ -2,6 +2,7 @@
 ghost use Rattle.asm_graph.specs.Arrows.{AlongLaw};
 ghost use Rattle.asm_graph.specs.Dot.{QuotedLaw};
 ghost use Rattle.asm_graph.specs.Graphs.{QuietLaw};
+ghost use Rattle.asm_graph.specs.Labels.{NamedLaw};
 
 use asm_explore::laws::script_law;
 
@@ -14,6 +15,11 @@ pub fn quiet_law()
 /// A text within quotes, as it is written, ends at the quote behind it and at none before.
 pub fn quoted_law()
     ensures { QuotedLaw }
+{}
+
+/// What a node writes of a location is a name of it.
+pub fn named_law()
+    ensures { NamedLaw }
 {}
 
 /// The step in which what is written at an edge is asked leads where the edge does.

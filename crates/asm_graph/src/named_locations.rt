@@ -13,12 +13,7 @@ use asm_explore_table::names::is_named;
 use std::alloc::{AllocError, Global};
 
 /// Whether nodes show the location with this number: one that is named, or any without names.
-fn is_shown(
-    alloc: Global,
-    checked: &Checked,
-    names: &[&str],
-    n: usize,
-) -> Result<bool, AllocError>
+fn is_shown(alloc: Global, checked: &Checked, names: &[&str], n: usize) -> Result<bool, AllocError>
     requires { n < count_of (shape_of (spec_of checked.now.spec)) }
     ensures { let s = spec_of checked.now.spec in IfOk result (λ is. is ≡ shown_by s (names_said names.now) (numbered s n)) }
 {

@@ -11,8 +11,8 @@ use Rattle.asm_graph.proofs.Paired.{each_got}
 use Rattle.asm_graph.proofs.Texts.{node_lines_next}
 use Rattle.asm_graph.proofs.dot.add_nodes.Goals as goal
 
-pub add_node-requires-whole : goal.add_node-requires-whole
-add_node-requires-whole c =
+pub add_node-requires-clause-whole : goal.add_node-requires-clause-whole
+add_node-requires-clause-whole c =
     let nodes = c.args.nodes.now in
     let n = c.index-nodes-number.result in
     each_got (λ (n : Node). length n.state ≡ count_of (shape_of (spec_of c.args.texts.now.checked.now.spec))) nodes c.loop-number.number n c.requires.whole
