@@ -1,4 +1,4 @@
-use Rattle.std.proofs.Common.{◌≡◌, ◌∙◌, ◌+◌, ◌<◌, ◌≤◌, ℕ, suc, true, false, Bool, List, Option, None, Some, length, inl, inr, refl, sym, ap, subst, arith, Vec, Global}
+use Rattle.std.proofs.Common.{◌≡◌, ◌∙◌, ◌+◌, ◌≤◌, ℕ, suc, true, false, Bool, List, Option, None, Some, length, inl, inr, refl, sym, ap, subst, arith, Vec, Global}
 use Rattle.std.specs.BTreeMap.{BTreeMap}
 use Rattle.std.specs.Prelude.{IfNone, IfSome}
 use Rattle.asm_state.specs.code.Contents.{IsStateOf}
@@ -6,7 +6,7 @@ use Rattle.asm_state.specs.Location.{State}
 use Rattle.asm_state.specs.Signature.{Shape, initial_state, state_of}
 use Rattle.asm_state.specs.declared.value.Value.{Value}
 use Rattle.asm_reader.specs.ExactLines.{exactly}
-use Rattle.asm_meaning.specs.Run.{IsAfter, IsStep, Run, Specification, run}
+use Rattle.asm_meaning.specs.Run.{IsAfter, IsStep, Run, Specification}
 use Rattle.asm_explore.specs.RunChoices.{asked_from}
 use Rattle.asm_explore.specs.declared.resolved_question.ResolvedQuestion.{ResolvedQuestion}
 use Rattle.asm_random.specs.Drafts.{draft_lines}

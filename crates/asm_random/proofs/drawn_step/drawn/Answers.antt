@@ -1,4 +1,4 @@
-use Rattle.std.proofs.Common.{◌≡◌, ◌∙◌, ◌*◌, ◌/◌, ◌^◌, ◌<◌, ℕ, zero, suc, List, ◌∷◌, length, take, max, refl, sym, ap, arith}
+use Rattle.std.proofs.Common.{◌≡◌, ◌∙◌, ◌*◌, ◌/◌, ◌^◌, ◌<◌, ℕ, zero, suc, List, ◌∷◌, length, take, max, sym, ap, arith}
 use Rattle.std.specs.Int.{from_be_bytes, w64}
 use Rattle.sha2.specs.Sha256.{sha256}
 use Rattle.asm_random.specs.DrawnNumbers.{drawn_bytes, drawn_number}
