@@ -6,14 +6,13 @@
 --     still_after      a step that makes no choice and changes nothing leads to a state from which
 --                      nothing goes on
 --     drawn_alike      if each step tells the same under another script, it is drawn there, too
-use Rattle.std.proofs.Common.{◌≡◌, ◌≢◌, ◌∙◌, ℕ, zero, suc, ◌+◌, ◌<◌, ◌≤◌, ◌⊎◌, inl, inr, Bool, true, false, List, [], length, refl, sym, ap, subst, arith, below_more}
+use Rattle.std.proofs.Common.{◌≡◌, ◌≢◌, ◌∙◌, ℕ, suc, ◌+◌, ◌<◌, ◌≤◌, ◌⊎◌, inl, inr, Bool, true, List, length, sym, ap, subst, arith, below_more}
 use Rattle.asm_state.specs.Location.{State}
 use Rattle.asm_state.specs.Updates.{UpdateSet}
 use Rattle.asm_reader.specs.ExactLines.{exactly}
-use Rattle.asm_reader.specs.ScriptLines.{Script, pick}
+use Rattle.asm_reader.specs.ScriptLines.{Script}
 use Rattle.asm_meaning.specs.Run.{Run, End, AtLimit, AtExhausted, AtFault, Specification, run, IsAfter, IsStep}
 use Rattle.asm_meaning.specs.RunLaws.{RunLaws}
-use Rattle.asm_meaning.specs.Story.{Story}
 use Rattle.asm_meaning.specs.StoryLaws.{AreToldOutcomes}
 use Rattle.asm_explore.specs.ChoicePoints.{Asking, asked}
 use Rattle.asm_explore.specs.RunChoices.{asked_from}

@@ -3,21 +3,21 @@
 --                      step tells the same
 --     is_drawn_text    their text is that of the script of a run that is drawn
 --     too_long         why they have none
-use Rattle.std.proofs.Common.{◌≡◌, ◌∙◌, ℕ, suc, ◌+◌, ◌<◌, Bool, true, List, [], ◌∷◌, Option, None, Some, unwrap_or, inl, inr, refl, sym, ap, subst, arith, slice_get}
+use Rattle.std.proofs.Common.{◌≡◌, ◌∙◌, ℕ, suc, ◌+◌, ◌<◌, Bool, List, [], Option, None, Some, unwrap_or, inl, inr, sym, ap, subst, arith, slice_get}
 use Rattle.std.specs.Option.{option_or}
 use Rattle.std.specs.Prelude.{nat_eq, not}
 use Rattle.std.specs.List.{filter}
 use Rattle.asm_state.specs.Location.{State}
 use Rattle.asm_syntax.specs.declared.input_error.InputError.TheVariants.{Named}
 use Rattle.asm_reader.specs.ExactLines.{exactly}
-use Rattle.asm_reader.specs.ScriptLines.{Line, Script, exact_choice, pick}
+use Rattle.asm_reader.specs.ScriptLines.{Line, Script, pick}
 use Rattle.asm_reader.specs.ScriptText.{IsScript}
 use Rattle.asm_meaning.specs.Program.{nothing_bound}
 use Rattle.asm_meaning.specs.Run.{AtLimit, Specification, run}
 use Rattle.asm_meaning.specs.Scripts.{IsUnrepeated}
 use Rattle.asm_meaning.specs.StoryLaws.{AreToldOutcomes}
 use Rattle.asm_explore.specs.ChoicesMadeLaws.{MakingLaws, Takes}
-use Rattle.asm_explore.specs.ChosenLines.{AreTooLong, chosen_lines}
+use Rattle.asm_explore.specs.ChosenLines.{AreTooLong}
 use Rattle.asm_explore.specs.RunChoices.{chosen_from, lines_forward, of_run}
 use Rattle.asm_explore.specs.WrittenScripts.{IsTextOf, IsTextRefusal, lines_text, numbers_in, written}
 use Rattle.asm_explore.specs.declared.outcomes.listed_outcome.Choice.{Choice}

@@ -5,7 +5,7 @@
 --     fine_next              one more step
 --     fine_run               such a run is fine
 --     fine_wrong             and goes wrong if its next step does
-use Rattle.std.proofs.Common.{◌≡◌, ℕ, zero, suc, ◌+◌, ◌<◌, ◌≤◌, ◌⊎◌, Bool, true, false, inl, refl, sym, ap, subst, ◌∙◌, arith, below_more}
+use Rattle.std.proofs.Common.{◌≡◌, ℕ, zero, suc, ◌+◌, ◌<◌, ◌≤◌, ◌⊎◌, Bool, true, inl, refl, sym, ap, subst, ◌∙◌, arith, below_more}
 use Rattle.asm_state.specs.Location.{State}
 use Rattle.asm_reader.specs.ScriptLines.{Script}
 use Rattle.asm_meaning.specs.Run.{Specification, run, IsAfter, IsStep}

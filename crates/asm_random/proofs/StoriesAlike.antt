@@ -3,7 +3,7 @@
 --     runs_alike       if under two scripts each step tells the same, the runs are the same
 --     lists_alike      and so is what is chosen in their steps
 --     chosen_at        what is chosen in a step of a run is at its place in the list of all steps
-use Rattle.std.proofs.Common.{◌≡◌, ◌∙◌, ℕ, zero, suc, ◌+◌, ◌<◌, ◌≤◌, Bool, true, false, cond, List, [], ◌∷◌, Option, Some, refl, sym, ap, subst, arith, slice_get}
+use Rattle.std.proofs.Common.{◌≡◌, ◌∙◌, ℕ, zero, suc, ◌+◌, ◌<◌, ◌≤◌, Bool, true, false, cond, List, [], ◌∷◌, Some, refl, sym, ap, subst, arith, slice_get}
 use Rattle.asm_state.specs.Location.{State}
 use Rattle.asm_state.specs.Updates.{UpdateSet, is_consistent, fire}
 use Rattle.asm_reader.specs.ScriptLines.{Script, pick}
@@ -15,8 +15,7 @@ use Rattle.asm_meaning.specs.StoryLaws.{AreToldOutcomes}
 use Rattle.asm_meaning.specs.Value.{nesting}
 use Rattle.asm_meaning.specs.Yields.{Result, Gives, Exhausted}
 use Rattle.asm_explore.specs.ChoicePoints.{after_set, asked, choices_of}
-use Rattle.asm_explore.specs.RunChoices.{asked_from, chosen_from, from_step}
-use Rattle.asm_explore.specs.TakenChoices.{Situation}
+use Rattle.asm_explore.specs.RunChoices.{chosen_from, from_step}
 use Rattle.asm_explore.specs.declared.outcomes.listed_outcome.Choice.{Choice}
 
 module _ (specification : Specification) (turns : ℕ) where

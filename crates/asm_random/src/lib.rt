@@ -23,8 +23,8 @@ mod settled_step;
 mod shortening;
 mod stepping;
 
-pub use draw_question::DrawQuestion;
 pub use draw::drawn_text;
+pub use draw_question::DrawQuestion;
 pub use progress::RandomProgress;
 pub use question::RandomQuestion;
 pub use random::random_runs;

@@ -1,4 +1,4 @@
-use Rattle.std.proofs.Common.{◌≡◌, ◌∙◌, ◌+◌, ◌≤◌, ℕ, true, false, List, Ok, Err, refl, sym, ap, subst, length, arith, inl, inr, Vec, Global}
+use Rattle.std.proofs.Common.{◌≡◌, ◌∙◌, ◌+◌, ◌≤◌, ℕ, true, List, Ok, Err, refl, sym, ap, subst, length, arith, inl, inr, Vec, Global}
 use Rattle.std.specs.BTreeMap.{BTreeMap}
 use Rattle.std.specs.Prelude.{IfOk, IfErr, Result}
 use Rattle.std.proofs.lemmas.Bool.{false≢true}
