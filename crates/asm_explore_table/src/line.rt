@@ -1,6 +1,7 @@
 //! Lines of a table: texts at the columns where they begin.
 ghost use Rattle.std.specs.Prelude.{◌≡◌, ◌++◌, OnOk};
-ghost use Rattle.asm_explore_table.specs.Lines.{aligned, blanks, comma, placed};
+ghost use Rattle.asm_explore_table.specs.Lines.{aligned, blanks, placed};
+ghost use Rattle.asm_explore_table.specs.code.Commas.{comma};
 
 use std::alloc::AllocError;
 
