@@ -46,6 +46,6 @@ pub record IsExtentOf (s : Spec) (first : State) (extent : Extent) (rows : List 
   pub changed : (n : ℕ) → n < count_of (shape_of s) → slice_index_or extent.changed.items n false ≡ changes (location_at (shape_of s) n) rows
   pub chooses : extent.chooses ≡ chooses rows
   pub steps : extent.steps ≡ length rows
-  pub first : (n : ℕ) → n < count_of (shape_of s) → length (shown_value s (first (numbered s n))) ≤ width_in extent n
+  pub first_cells : (n : ℕ) → n < count_of (shape_of s) → length (shown_value s (first (numbered s n))) ≤ width_in extent n
   pub cells : (n : ℕ) → n < count_of (shape_of s) → All (HasShortCells s n (width_in extent n)) rows
   pub chosen : All (HasShortChoices s extent.chosen_width) rows
