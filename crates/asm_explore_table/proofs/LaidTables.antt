@@ -37,10 +37,10 @@ module _ (s : Spec) (extent : Extent) (first : State) (rows : List Row) (found :
   cells = all_swapped (λ (c : Column). HasShortCells s c.location (width_at s extent c)) block.columns.items rows
       (All-weaker (λ (c : Column). c.location < count_of (shape_of s)) (λ c. All (HasShortCells s c.location (width_at s extent c)) rows) cells_at block.columns.items within)
 
-  pub laid_fits : extent.steps < 2 ^ 64 → FitsInto s first rows most (width_of_steps extent) block
-  laid_fits few = at is.fits
+  pub laid_fits : FitsInto s first rows most (width_of_steps extent) block
+  laid_fits = at is.fits (omega (arith, found.few))
     where
-      at : (length block.columns.items ≤ 1) ⊎ (2 + end_of (reached_by s extent block) ≤ most) → FitsInto s first rows most (width_of_steps extent) block
-      at (inl one) = inl one
-      at (inr fits) = inr (All-weaker (λ (line : List ℕ). length line ≤ end_of (reached_by s extent block)) (λ line. 2 + length line ≤ most) (λ line low. omega (arith, low, fits))
+      at : (length block.columns.items ≤ 1) ⊎ (2 + end_of (reached_by s extent block) ≤ most) → extent.steps < 2 ^ 64 → FitsInto s first rows most (width_of_steps extent) block
+      at (inl one) few = inl one
+      at (inr fits) few = inr (All-weaker (λ (line : List ℕ). length line ≤ end_of (reached_by s extent block)) (λ line. 2 + length line ≤ most) (λ line low. omega (arith, low, fits))
           (block_lines s (width_of_steps extent) block first rows) (block_short s extent first rows block is.start is.laid texts found.steps few found.chosen cells))

@@ -4,6 +4,7 @@ mod ChangeLists
 mod ChosenPieces
 mod ClearTables
 mod DecimalLengths
+mod LaidBlocks
 mod LaidTables
 mod LedSteps
 mod MadeTables

@@ -5,7 +5,7 @@
 --     IsExtentOf s first extent rows    which locations change in the rows, whether something is asked
 --                                       in one, how many there are, and how wide the texts are that
 --                                       stand below the names of functions
-use Rattle.std.specs.Prelude.{◌≡◌, ◌≤◌, ◌<◌, ◌||◌, ◌+◌, All, ℕ, false, List, length, slice_index_or}
+use Rattle.std.specs.Prelude.{◌≡◌, ◌≤◌, ◌<◌, ◌||◌, ◌+◌, ◌^◌, All, ℕ, false, List, length, slice_index_or}
 use Rattle.asm_state.specs.Location.{State}
 use Rattle.asm_state.specs.Signature.{count_of, location_at}
 use Rattle.asm_syntax.specs.SourceTree.{Spec}
@@ -46,6 +46,7 @@ pub record IsExtentOf (s : Spec) (first : State) (extent : Extent) (rows : List 
   pub changed : (n : ℕ) → n < count_of (shape_of s) → slice_index_or extent.changed.items n false ≡ changes (location_at (shape_of s) n) rows
   pub chooses : extent.chooses ≡ chooses rows
   pub steps : extent.steps ≡ length rows
+  pub few : extent.steps < 2 ^ 32
   pub first_cells : (n : ℕ) → n < count_of (shape_of s) → length (shown_value s (first (numbered s n))) ≤ width_in extent n
   pub cells : (n : ℕ) → n < count_of (shape_of s) → All (HasShortCells s n (width_in extent n)) rows
   pub chosen : All (HasShortChoices s extent.chosen_width) rows
