@@ -1,4 +1,4 @@
-use Rattle.std.proofs.Common.{◌∙◌, ◌++◌, ◌∷◌, [], ap, get_or, inr, refl, subst, sym}
+use Rattle.std.proofs.Common.{◌≡◌, ◌∙◌, ◌++◌, ◌∷◌, [], ap, get_or, inr, refl, subst, sym}
 use Rattle.std.proofs.lemmas.List.Elements.{All-push}
 use Rattle.asm_syntax.specs.code.Views.{spec_of}
 use Rattle.asm_explore_table.specs.declared.block.Block.{Block}
@@ -40,4 +40,5 @@ loop-k-preserved c =
 pub returns-clause-filled : goal.returns-clause-filled
 returns-clause-filled c =
     let l = c.loop-k in
-    subst AreFilled (sym (c.in_ok-push.ensures.items ∙ ap (λ (b : Block). l.blocks.items ++ b ∷ []) c.into_block.ensures)) (all_filled l.blocks.items l.begun.block l.invariant.filled l.invariant.begins)
+    let all : c.push.new.self.items ≡ l.blocks.items ++ l.begun.block ∷ [] = c.in_ok-push.ensures.items ∙ ap (λ (b : Block). l.blocks.items ++ b ∷ []) c.into_block.ensures in
+    subst AreFilled (sym all) (all_filled l.blocks.items l.begun.block l.invariant.filled l.invariant.begins)
