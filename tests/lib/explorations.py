@@ -26,6 +26,11 @@ def of(name, *words, text=None, status=0, is_by_hand=False):
     return Exploration(name, f"{text or name}.asm", list(words), status, is_by_hand)
 
 
+def protocol(name, *words, status=0):
+    """One of the page PROTOCOLS.md."""
+    return of(f"protocols/{name}", "--always", "isSafe", *words, status=status)
+
+
 def asked_by(words):
     """What the words ask for."""
     known = argparse.ArgumentParser()
@@ -77,4 +82,17 @@ EXPLORATIONS = [
     of("guide/outside", status=1),
     of("guide/forever", "--turns", "5", status=1),
     of("guide/ways"),
+    of("guide/queue", "--deadlock-unless", "false"),
+    protocol("increment", "--deadlock-unless", "isDone"),
+    protocol("increment_wrong", status=1),
+    protocol("jobs", "--deadlock-unless", "isClosed"),
+    protocol("jobs_wrong", status=1),
+    protocol("lock", "--deadlock-unless", "isDone"),
+    protocol("lock_wrong", status=1),
+    protocol("transfer", "--deadlock-unless", "false"),
+    protocol("transfer_wrong", status=1),
+    protocol("tickets", "--deadlock-unless", "false"),
+    protocol("tickets_wrong", status=1),
+    protocol("fischer", "--deadlock-unless", "false"),
+    protocol("fischer_wrong", status=1),
 ]

@@ -49,15 +49,33 @@ def of_numbers(command):
     yield Row([name, *ONE], 1, command.exhausted(1000), text=FOREVER)
 
 
+def of_seeds(command):
+    """Choices are drawn by any number of 64 bits, and not beside a script."""
+    name = command.name
+    for value in ("-1", str(1 << 64), "three", ""):
+        yield refused(4, [name, "-", f"--draw={value}"], f"error: invalid value '{value}' for '--draw <N>': ")
+    yield refused(4, [name, "-", "--draw"], "error: a value is required for '--draw <N>' but none was supplied\n")
+    yield refused(4, [name, "-", "--draw", "2", "--draw", "2"], "error: the argument '--draw <N>' cannot be used multiple times\n")
+    for given in (["-", "--draw", "7", "--script", "none"], ["--script=-", "--draw=0", "none"]):
+        yield refused(4, [name, *given], "error: the choices can't both be read from a script and be drawn\n", f"Usage: asm-explore {name} ")
+    yield refused(4, [name, "-", "--script", "-", "--draw", "7"], "error: the specification and the script can't both be standard input\n")
+    # Where nothing is chosen, nothing is drawn.
+    for value in ("0", "+07", str((1 << 64) - 1)):
+        yield Row([name, "--draw", value, *ONE], 0, "# limit after step 1\n", is_front=True, text=STILL)
+
+
 def of_words(command):
     name = command.name
     missing = "error: the following required arguments were not provided:\n  <SPEC>\n"
     yield refused(4, [name], missing, f"Usage: asm-explore {name} <SPEC>\n")
     yield refused(4, [name, "--steps", "3"], missing)
     yield refused(4, [name, "-", "-"], "error: unexpected argument '-' found\n")
-    for option in ("--walks", "--always", "--within", "--states", "--outcomes", "--deadlock-unless", "--workers", "--only", "--width", "--trace"):
+    options = ("--walks", "--always", "--within", "--states", "--outcomes", "--deadlock-unless", "--workers", "--only", "--width", "--trace")
+    for option in (*options, "--table", "--dot", "--dot-only", "--seed", "--draw"):
         if option not in command.options:
             yield refused(4, [name, "-", option, "1"], f"error: unexpected argument '{option}' found\n")
+    if "--draw" in command.options:
+        yield from of_seeds(command)
     yield refused(4, [name, "-", "--script"], "error: a value is required for '--script <FILE>' but none was supplied\n")
     twice = "error: the argument '--script <FILE>' cannot be used multiple times\n"
     yield refused(4, [name, "-", "--script", "a", "--script", "b"], twice)

@@ -136,6 +136,7 @@ TABLES = [
     show("guide/coin_late", "--steps", "0", text="guide/coin", script="guide/coin", status=6),
     show("guide/drinks", "--steps", "2"),
     show("guide/ways", "--steps", "1"),
+    show("guide/queue", "--steps", "4"),
     show("guide/toss_short", "--steps", "3", text="guide/toss", status=6),
     show("guide/outside", script=False, status=1),
     show("guide/dice", "--turns", "3", status=1),

@@ -1,7 +1,8 @@
 -- Free. The command line with all commands.
+--     no_globals      an argument that is global is none of a plain command
 --     added_as        one more command
 --     is_free         the library knows what it refuses
-use Rattle.std.proofs.Common.{◌≡◌, ◌∙◌, ap, true, false, not, refl}
+use Rattle.std.proofs.Common.{◌≡◌, ◌∙◌, ap, Bool, true, false, not, refl}
 use Rattle.std.specs.Borrow.{Bor}
 use Rattle.clap.specs.Built.{AddsSubcommand}
 use Rattle.clap.specs.Facts.{groups_of}
@@ -26,16 +27,15 @@ pub random_is_plain : random_command.top.is_plain ≡ true
 unfolding random_command
 random_is_plain = refl
 
-pub run_is_plain : run_command.top.is_plain ≡ true
+pub run_is_plain : (draws : Bool) → (run_command draws).top.is_plain ≡ true
 unfolding run_command
-run_is_plain = refl
+run_is_plain draws = refl
 
 pub show_is_plain : show_command.top.is_plain ≡ true
 unfolding show_command
 show_is_plain = refl
 
--- an argument that is global is none of a plain command
-no_globals : (c : Command) (app : App) → app.top.is_plain ≡ true → app_of c ≡ app → (out-Command c).has_globals ≡ false
+pub no_globals : (c : Command) (app : App) → app.top.is_plain ≡ true → app_of c ≡ app → (out-Command c).has_globals ≡ false
 no_globals c app plain known =
     let all = ap (λ x. x.top.is_plain) known ∙ plain in
     let groups = both (is_empty (groups_of c)) _ all in

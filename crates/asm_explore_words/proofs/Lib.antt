@@ -1,4 +1,5 @@
 mod AllCommands
+mod OptionalNumbers
 mod Options
 mod RandomOptions
 mod ReadTexts

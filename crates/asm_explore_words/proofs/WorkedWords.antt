@@ -35,6 +35,26 @@ two_files_are_taken : task_refusals (codes "all" ∷ codes "--dot" ∷ codes "g"
 unfolding command clap_on_literals
 two_files_are_taken = refl
 
+names_for_a_graph : task_refusals (codes "all" ∷ codes "--dot-only" ∷ codes "f" ∷ codes "--dot" ∷ codes "g" ∷ codes "--dot-only=age(2)" ∷ one) ≡ []
+unfolding command clap_on_literals
+names_for_a_graph = refl
+
+table_beside_a_trace : task_refusals (codes "all" ∷ codes "--table" ∷ codes "--trace" ∷ one) ≡ []
+unfolding command clap_on_literals
+table_beside_a_trace = refl
+
+table_of_a_random_run : task_refusals (codes "random" ∷ codes "--trace" ∷ codes "--table" ∷ one) ≡ []
+unfolding random_command clap_on_literals
+table_of_a_random_run = refl
+
+drawn_choices : task_refusals (codes "choices" ∷ codes "--draw" ∷ codes "18446744073709551615" ∷ one) ≡ []
+unfolding run_command clap_on_literals
+drawn_choices = refl
+
+drawn_and_shown : task_refusals (codes "show" ∷ codes "--draw=7" ∷ codes "-" ∷ []) ≡ []
+unfolding show_command clap_on_literals
+drawn_and_shown = refl
+
 condition_beside_two_files : task_refusals (codes "all" ∷ codes "--dot" ∷ codes "g" ∷ codes "--quiet" ∷ codes "s" ∷ codes "--always-file" ∷ codes "f" ∷ codes "-" ∷ []) ≡ []
 unfolding command clap_on_literals
 condition_beside_two_files = refl
@@ -76,6 +96,26 @@ too_narrow = refl
 both_are_shown_input : task_refusals (codes "show" ∷ codes "-" ∷ codes "--script" ∷ codes "-" ∷ []) ≡ ArgumentConflict ∷ []
 unfolding show_command clap_on_literals
 both_are_shown_input = refl
+
+drawn_and_read : task_refusals (codes "choices" ∷ codes "--draw" ∷ codes "7" ∷ codes "--script" ∷ codes "s" ∷ one) ≡ ArgumentConflict ∷ []
+unfolding run_command clap_on_literals
+drawn_and_read = refl
+
+drawn_and_read_and_shown : task_refusals (codes "show" ∷ codes "--script" ∷ codes "s" ∷ codes "--draw=0" ∷ one) ≡ ArgumentConflict ∷ []
+unfolding show_command clap_on_literals
+drawn_and_read_and_shown = refl
+
+clash_draws_nothing : task_refusals (codes "clash" ∷ codes "--draw" ∷ codes "7" ∷ one) ≡ UnknownArgument ∷ []
+unfolding run_command clap_on_literals
+clash_draws_nothing = refl
+
+seed_of_65_bits : task_refusals (codes "choices" ∷ codes "--draw" ∷ codes "18446744073709551616" ∷ one) ≡ ValueValidation ∷ []
+unfolding run_command clap_on_literals
+seed_of_65_bits = refl
+
+names_without_a_graph : task_refusals (codes "all" ∷ codes "--dot-only" ∷ codes "f" ∷ codes "--quiet" ∷ codes "s" ∷ one) ≡ ArgumentConflict ∷ []
+unfolding command clap_on_literals
+names_without_a_graph = refl
 
 both_are_one_file : task_refusals (codes "all" ∷ codes "--dot" ∷ codes "f" ∷ codes "--quiet" ∷ codes "f" ∷ one) ≡ ArgumentConflict ∷ []
 unfolding command clap_on_literals

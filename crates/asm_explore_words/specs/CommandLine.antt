@@ -1,20 +1,23 @@
 -- Definition. The words after a command, in the terms of the library that reads them.
 --     command, refusals words           after `all`: it has a version; its arguments: the text's
---                                       file, an option for each limit and condition and for the
---                                       graph's and the script's file, and two flags. The kinds of
---                                       what is wrong with the words, none if they are taken
+--                                       file, an option for each limit and condition, for the
+--                                       graph's and the script's file and for names that the graph
+--                                       shows, and three flags. The kinds of what is wrong with the
+--                                       words, none if they are taken
 --     random_command, random_refusals words
 --                                       after `random`: the text's file, an option for each limit
---                                       and condition and for the seed, and two flags
---     run_command, run_refusals words   after `choices` and `clash`: the text's file, and an option
---                                       for each limit, for the script's file, for conditions and
---                                       for files of conditions
+--                                       and condition and for the seed, and three flags
+--     run_command draws, run_refusals draws words
+--                                       after `choices`, which may draw, and `clash`, which doesn't:
+--                                       the text's file, and an option for each limit, for the
+--                                       script's file, for the seed by which choices are drawn if
+--                                       they may be, for conditions and for files of conditions
 --     show_command, show_refusals words
---                                       after `show`: the same, and an option for names and for
---                                       the width
+--                                       after `show`: the same as after `choices`, and an option for
+--                                       names and for the width
 --     commands, command_refusals words  all of them, one of which has to be named first. The kinds
 --                                       of what is wrong with words that name none
-use Rattle.std.specs.Prelude.{ℕ, false, true, List, [], ◌∷◌, Some, codes}
+use Rattle.std.specs.Prelude.{ℕ, Bool, false, true, List, [], ◌∷◌, Some, codes, cond}
 use Rattle.clap.specs.Faults.{fault_of}
 use Rattle.clap.specs.Kinds as kinds
 use Rattle.clap.specs.Kinds.{Kinds}
@@ -76,8 +79,10 @@ command = record {
         ∷ number outcomes_option
         ∷ number workers_option
         ∷ option (codes "dot")
+        ∷ repeated (option (codes "dot-only"))
         ∷ option (codes "quiet")
         ∷ flag (codes "trace")
+        ∷ flag (codes "table")
         ∷ flag (codes "progress")
         ∷ [];
   };
@@ -102,6 +107,7 @@ random_command = record {
         ∷ number runs_option
         ∷ or_else (codes "0") (unsigned (codes "seed"))
         ∷ flag (codes "trace")
+        ∷ flag (codes "table")
         ∷ flag (codes "progress")
         ∷ [];
   };
@@ -111,8 +117,12 @@ random_command = record {
 abbrev pub random_refusals : List Text → Kinds
 random_refusals words = fault_of random_command words
 
-unfoldable pub run_command : App
-run_command = record {
+-- an option for the seed, if choices may be drawn, before other arguments
+abbrev pub seed_before : (draws : Bool) → List Rule → List Rule
+seed_before draws rules = cond draws (unsigned (codes "draw") ∷ rules) rules
+
+unfoldable pub run_command : (draws : Bool) → App
+run_command draws = record {
   top = record (new_shape (codes "asm-explore")) {
     no_binary_name = true;
     has_version = true;
@@ -120,15 +130,17 @@ run_command = record {
         ∷ number (steps_or_else (codes "1000"))
         ∷ number turns_option
         ∷ option (codes "script")
-        ∷ repeated (option (codes "always"))
-        ∷ repeated (option (codes "always-file"))
-        ∷ [];
+        ∷ seed_before draws (
+          repeated (option (codes "always"))
+          ∷ repeated (option (codes "always-file"))
+          ∷ []
+        );
   };
   subs = [];
 }
 
-abbrev pub run_refusals : List Text → Kinds
-run_refusals words = fault_of run_command words
+abbrev pub run_refusals : (draws : Bool) → List Text → Kinds
+run_refusals draws words = fault_of (run_command draws) words
 
 unfoldable pub show_command : App
 show_command = record {
@@ -139,6 +151,7 @@ show_command = record {
         ∷ number (steps_or_else (codes "1000"))
         ∷ number turns_option
         ∷ option (codes "script")
+        ∷ unsigned (codes "draw")
         ∷ repeated (option (codes "always"))
         ∷ repeated (option (codes "always-file"))
         ∷ repeated (option (codes "only"))
@@ -166,8 +179,8 @@ commands = record {
   };
   subs = named (codes "all") command
       ∷ named (codes "random") random_command
-      ∷ named (codes "choices") run_command
-      ∷ named (codes "clash") run_command
+      ∷ named (codes "choices") (run_command true)
+      ∷ named (codes "clash") (run_command false)
       ∷ named (codes "show") show_command
       ∷ [];
 }

@@ -1,22 +1,25 @@
 -- Definition. What words say.
 --     AreSaid words settings        the settings are those that the words after `all` give: the graph
 --                                   and the script aren't both written to one file, nor one of them
---                                   to that of the text or of a condition
+--                                   to that of the text or of a condition, and no names are given
+--                                   for a graph that there is not
 --     AreRandomSaid words settings  the same after `random`
---     AreRunSaid words settings     the same after `choices` and `clash`: the text and the script
---                                   aren't both standard input
+--     AreRunSaid draws words settings
+--                                   the same after `choices`, which may draw, and `clash`, which
+--                                   doesn't: the text and the script aren't both standard input, and
+--                                   choices aren't both read from a script and drawn
 --     AreShowSaid words settings    the same after `show`
 --     AreSaidBehind words task      the first word names the command, and the others give its
 --                                   settings
 --     all_refusals words            the kinds of what is wrong with the words after `all`
---     one_run_refusals words        the same after `choices` and `clash`
+--     one_run_refusals draws words  the same after `choices` and `clash`
 --     all_show_refusals words       the same after `show`
 --     task_refusals words           the kinds of what is wrong with the command and the words behind
 --                                   it, none if they are taken
 --     AskForHelp kinds              words of these kinds ask for help or for the version
 --     IsRefusal kinds fault         words are refused by a fault of one of these kinds, or memory
 --                                   ran out
-use Rattle.std.specs.Prelude.{◌≡◌, ◌⊎◌, ℕ, Bool, true, false, not, ◌&&◌, ◌||◌, List, [], ◌∷◌, Option, Some, None, cond, option_map, codes, is_some, ⊤}
+use Rattle.std.specs.Prelude.{◌≡◌, ◌⊎◌, ℕ, Bool, true, false, not, ◌&&◌, ◌||◌, List, [], ◌∷◌, Option, Some, None, cond, option_map, codes, is_none, is_some, ⊤}
 use Rattle.std.specs.Option.{option_map_or}
 use Rattle.std.specs.Prelude.{find}
 use Rattle.std.specs.List.{list_any}
@@ -24,10 +27,10 @@ use Rattle.std.specs.Str.{bytes_eq}
 use Rattle.std.specs.Str.Parse.{digits_value, without_leading_plus}
 use Rattle.clap.specs.Kinds as kinds
 use Rattle.clap.specs.Kinds.{IsAmong, Kinds}
-use Rattle.clap.specs.Matches.{first_value, found_of, one_text}
+use Rattle.clap.specs.Matches.{first_value, found_of, matched_of, one_text}
 use Rattle.clap.specs.Simple.{matches_of}
 use Rattle.clap.specs.Values.{IsUnsignedIn, kind_of}
-use Rattle.clap.specs.Walk.{Row, Text, first_of, rows_of, texts}
+use Rattle.clap.specs.Walk.{Row, Text, first_of, is_empty, rows_of, texts}
 use Rattle.clap.specs.declared.error.Error.{Error}
 use Rattle.clap.specs.declared.error.kind.ErrorKind.TheVariants.{ArgumentConflict, DisplayHelp, DisplayVersion, OutOfMemory}
 use Rattle.clap.specs.declared.parser.matches.ArgMatches.{ArgMatches}
@@ -102,6 +105,10 @@ pub record HasUnsigned (found : Found) (name : Text) : Type 0 where
   pub is_handed : one_text found name ≡ Some text
   pub is_within : IsUnsignedIn 0 most_unsigned text
 
+-- the same, if there is an entry
+abbrev pub MayHaveUnsigned : Found → (name : Text) → Type 0
+MayHaveUnsigned found name = (matched_of found name ≡ None) ⊎ HasUnsigned found name
+
 -- the rows of the words after `all`
 abbrev pub all_rows : List Text → List Row
 all_rows words = matches_of command words
@@ -118,14 +125,15 @@ pub record AreRandomParsed (words : List Text) (matches : ArgMatches) : Type 0 w
   pub numbers : HaveNumbers (found_of matches) random_number_options
   pub seed : HasUnsigned (found_of matches) (codes "seed")
 
--- the rows of the words after `choices` and `clash`
-abbrev pub run_rows : List Text → List Row
-run_rows words = matches_of run_command words
+-- the rows of the words after `choices`, which may draw, and `clash`
+abbrev pub run_rows : (draws : Bool) → List Text → List Row
+run_rows draws words = matches_of (run_command draws) words
 
-pub record AreRunParsed (words : List Text) (matches : ArgMatches) : Type 0 where
-  pub rows : rows_of (found_of matches) ≡ run_rows words
+pub record AreRunParsed (draws : Bool) (words : List Text) (matches : ArgMatches) : Type 0 where
+  pub rows : rows_of (found_of matches) ≡ run_rows draws words
   pub spec : is_some (first_value (found_of matches) (codes "spec")) ≡ true
   pub numbers : HaveNumbers (found_of matches) run_number_options
+  pub draw : draws ≡ true → MayHaveUnsigned (found_of matches) (codes "draw")
 
 -- the rows of the words after `show`
 abbrev pub show_rows : List Text → List Row
@@ -135,6 +143,7 @@ pub record AreShowParsed (words : List Text) (matches : ArgMatches) : Type 0 whe
   pub rows : rows_of (found_of matches) ≡ show_rows words
   pub spec : is_some (first_value (found_of matches) (codes "spec")) ≡ true
   pub numbers : HaveNumbers (found_of matches) show_number_options
+  pub draw : MayHaveUnsigned (found_of matches) (codes "draw")
 
 -- the texts of an argument
 abbrev pub all_of : Text → List Row → List Text
@@ -145,6 +154,11 @@ pub record IsUnsigned (rows : List Row) (name : Text) (n : ℕ) : Type 0 where
   pub text : Text
   pub is_given : first_of name rows ≡ Some text
   pub is_read : digits_value 10 (without_leading_plus text) ≡ n
+
+-- the same, if the argument has a text
+abbrev pub MayBeUnsigned : List Row → (name : Text) → Option ℕ → Type 0
+MayBeUnsigned rows name None = first_of name rows ≡ None
+MayBeUnsigned rows name (Some n) = IsUnsigned rows name n
 
 -- the text of a flag that is among the words
 abbrev pub is_yes : Option Text → Bool
@@ -161,8 +175,10 @@ pub record AreRead (rows : List Row) (settings : Settings) : Type 0 where
   pub when_quiet : option_map (λ text. text.now) settings.when_quiet ≡ first_of (codes "deadlock-unless") rows
   pub within : option_map (λ text. text.now) settings.within ≡ first_of (codes "within") rows
   pub dot : option_map (λ text. text.now) settings.dot ≡ first_of (codes "dot") rows
+  pub dot_only : texts settings.dot_only.items ≡ all_of (codes "dot-only") rows
   pub quiet : option_map (λ text. text.now) settings.quiet ≡ first_of (codes "quiet") rows
   pub trace : settings.trace ≡ is_yes (first_of (codes "trace") rows)
+  pub table : settings.table ≡ is_yes (first_of (codes "table") rows)
   pub progress : settings.progress ≡ is_yes (first_of (codes "progress") rows)
 
 -- the file with this name is standard input
@@ -189,14 +205,20 @@ is_over_conditions files dot quiet = list_any (λ file. is_one_file (Some file) 
 abbrev pub are_two_in_one : (spec : Option Text) → (files : List Text) → (dot quiet : Option Text) → Bool
 are_two_in_one spec files dot quiet = is_one_file dot quiet || (is_over_text spec dot quiet || is_over_conditions files dot quiet)
 
--- the words name one file for two of them
-abbrev pub are_one_file : List Text → Bool
-are_one_file words =
+-- names are given for a graph, and no file for it
+abbrev pub lacks_graph : (names : List Text) → (dot : Option Text) → Bool
+lacks_graph names dot = not (is_empty names) && is_none dot
+
+-- the words name one file for two of them, or names for a graph that there is not
+abbrev pub are_at_odds : List Text → Bool
+are_at_odds words =
     let rows = all_rows words in
-    are_two_in_one (first_of (codes "spec") rows) (all_of (codes "always-file") rows) (first_of (codes "dot") rows) (first_of (codes "quiet") rows)
+    let dot = first_of (codes "dot") rows in
+    are_two_in_one (first_of (codes "spec") rows) (all_of (codes "always-file") rows) dot (first_of (codes "quiet") rows)
+    || lacks_graph (all_of (codes "dot-only") rows) dot
 
 abbrev pub AreTaken : List Text → Type 0
-AreTaken words = (refusals words ≡ []) × (are_one_file words ≡ false)
+AreTaken words = (refusals words ≡ []) × (are_at_odds words ≡ false)
 
 abbrev pub AreSaid : List Text → Settings → Type 0
 AreSaid words settings = AreTaken words × AreRead (all_rows words) settings
@@ -209,18 +231,25 @@ pub record AreRandomRead (rows : List Row) (settings : RandomSettings) : Type 0 
   pub when_quiet : option_map (λ text. text.now) settings.when_quiet ≡ first_of (codes "deadlock-unless") rows
   pub seed : IsUnsigned rows (codes "seed") settings.seed
   pub trace : settings.trace ≡ is_yes (first_of (codes "trace") rows)
+  pub table : settings.table ≡ is_yes (first_of (codes "table") rows)
   pub progress : settings.progress ≡ is_yes (first_of (codes "progress") rows)
 
 abbrev pub AreRandomSaid : List Text → RandomSettings → Type 0
 AreRandomSaid words settings = AreRandomRead (matches_of random_command words) settings
 
-pub record AreRunRead (rows : List Row) (settings : RunSettings) : Type 0 where
+-- the seed by which choices are drawn, if they may be drawn
+abbrev pub IsSeedOf : (draws : Bool) → List Row → (draw : Option ℕ) → Type 0
+IsSeedOf false rows draw = draw ≡ None
+IsSeedOf true rows draw = MayBeUnsigned rows (codes "draw") draw
+
+pub record AreRunRead (draws : Bool) (rows : List Row) (settings : RunSettings) : Type 0 where
   pub spec : first_of (codes "spec") rows ≡ Some settings.spec.now
   pub numbers : AreNumbers rows (run_numbers_of settings)
   pub script : option_map (λ text. text.now) settings.script ≡ first_of (codes "script") rows
+  pub draw : IsSeedOf draws rows settings.draw
 
-pub record IsQuestionRead (rows : List Row) (question : RunQuestion) : Type 0 where
-  pub run : AreRunRead rows question.run
+pub record IsQuestionRead (draws : Bool) (rows : List Row) (question : RunQuestion) : Type 0 where
+  pub run : AreRunRead draws rows question.run
   pub always : texts question.always.items ≡ all_of (codes "always") rows
   pub always_files : texts question.always_files.items ≡ all_of (codes "always-file") rows
 
@@ -235,29 +264,38 @@ reads_task_twice (Choices question) = reads_input_twice question.run
 reads_task_twice (Clash question) = reads_input_twice question.run
 reads_task_twice (Show settings) = reads_input_twice settings.run
 
+-- the choices are both read from a script and drawn
+abbrev pub chooses_twice : RunSettings → Bool
+chooses_twice settings = is_some settings.script && is_some settings.draw
+
 -- the words ask for both from standard input
-abbrev pub are_both_input : List Text → Bool
-are_both_input words = is_input (first_of (codes "spec") (run_rows words)) && is_input (first_of (codes "script") (run_rows words))
+abbrev pub are_both_input : List Row → Bool
+are_both_input rows = is_input (first_of (codes "spec") rows) && is_input (first_of (codes "script") rows)
 
-abbrev pub AreRunTaken : List Text → Type 0
-AreRunTaken words = (run_refusals words ≡ []) × (are_both_input words ≡ false)
+-- the words ask for choices from a script, and for drawn ones, if these may be asked for
+abbrev pub are_both_chosen : (draws : Bool) → List Row → Bool
+are_both_chosen draws rows = draws && (is_some (first_of (codes "script") rows) && is_some (first_of (codes "draw") rows))
 
-abbrev pub AreRunSaid : List Text → RunQuestion → Type 0
-AreRunSaid words question = AreRunTaken words × IsQuestionRead (run_rows words) question
+abbrev pub is_run_at_odds : (draws : Bool) → List Row → Bool
+is_run_at_odds draws rows = are_both_input rows || are_both_chosen draws rows
+
+abbrev pub AreRunTaken : (draws : Bool) → List Text → Type 0
+AreRunTaken draws words = (run_refusals draws words ≡ []) × (is_run_at_odds draws (run_rows draws words) ≡ false)
+
+abbrev pub AreRunSaid : (draws : Bool) → List Text → RunQuestion → Type 0
+AreRunSaid draws words question = AreRunTaken draws words × IsQuestionRead draws (run_rows draws words) question
 
 pub record AreShowRead (rows : List Row) (settings : ShowSettings) : Type 0 where
   pub spec : first_of (codes "spec") rows ≡ Some settings.run.spec.now
   pub numbers : AreNumbers rows (show_numbers_of settings)
   pub script : option_map (λ text. text.now) settings.run.script ≡ first_of (codes "script") rows
+  pub draw : MayBeUnsigned rows (codes "draw") settings.run.draw
   pub always : texts settings.always.items ≡ all_of (codes "always") rows
   pub always_files : texts settings.always_files.items ≡ all_of (codes "always-file") rows
   pub names : texts settings.names.items ≡ all_of (codes "only") rows
 
-abbrev pub are_both_shown_input : List Text → Bool
-are_both_shown_input words = is_input (first_of (codes "spec") (show_rows words)) && is_input (first_of (codes "script") (show_rows words))
-
 abbrev pub IsShowTaken : List Text → Type 0
-IsShowTaken words = (show_refusals words ≡ []) × (are_both_shown_input words ≡ false)
+IsShowTaken words = (show_refusals words ≡ []) × (is_run_at_odds true (show_rows words) ≡ false)
 
 abbrev pub AreShowSaid : List Text → ShowSettings → Type 0
 AreShowSaid words settings = IsShowTaken words × AreShowRead (show_rows words) settings
@@ -269,13 +307,14 @@ IsRefusal kinds Memory = ⊤
 IsRefusal kinds (Words error) = IsAmong (kind_of error) kinds
 
 abbrev pub all_refusals : List Text → Kinds
-all_refusals words = kinds.or_else (refusals words) (cond (are_one_file words) (ArgumentConflict ∷ []) [])
+all_refusals words = kinds.or_else (refusals words) (cond (are_at_odds words) (ArgumentConflict ∷ []) [])
 
-abbrev pub one_run_refusals : List Text → Kinds
-one_run_refusals words = kinds.or_else (run_refusals words) (cond (are_both_input words) (ArgumentConflict ∷ []) [])
+abbrev pub one_run_refusals : (draws : Bool) → List Text → Kinds
+one_run_refusals draws words =
+    kinds.or_else (run_refusals draws words) (cond (is_run_at_odds draws (run_rows draws words)) (ArgumentConflict ∷ []) [])
 
 abbrev pub all_show_refusals : List Text → Kinds
-all_show_refusals words = kinds.or_else (show_refusals words) (cond (are_both_shown_input words) (ArgumentConflict ∷ []) [])
+all_show_refusals words = kinds.or_else (show_refusals words) (cond (is_run_at_odds true (show_rows words)) (ArgumentConflict ∷ []) [])
 
 abbrev pub IsFaultOf : Error → WordFault → Type 0
 IsFaultOf error Memory = kind_of error ≡ OutOfMemory
@@ -283,16 +322,12 @@ IsFaultOf error (Words e) = (e ≡ error) × ¬ (kind_of error ≡ OutOfMemory)
 
 -- ---- after the command
 
--- the command takes the settings of one run
-abbrev pub IsOfRun : Text → Type 0
-IsOfRun command = (command ≡ codes "choices") ⊎ (command ≡ codes "clash")
-
 abbrev pub AreSaidBehind : List Text → Task → Type 0
 AreSaidBehind [] task = ⊥
 AreSaidBehind (command ∷ words) (All settings) = (command ≡ codes "all") × AreSaid words settings
 AreSaidBehind (command ∷ words) (Random settings) = (command ≡ codes "random") × (random_refusals words ≡ []) × AreRandomSaid words settings
-AreSaidBehind (command ∷ words) (Choices question) = (command ≡ codes "choices") × AreRunSaid words question
-AreSaidBehind (command ∷ words) (Clash question) = (command ≡ codes "clash") × AreRunSaid words question
+AreSaidBehind (command ∷ words) (Choices question) = (command ≡ codes "choices") × AreRunSaid true words question
+AreSaidBehind (command ∷ words) (Clash question) = (command ≡ codes "clash") × AreRunSaid false words question
 AreSaidBehind (command ∷ words) (Show settings) = (command ≡ codes "show") × AreShowSaid words settings
 
 -- the kinds of what is wrong with the words after this command; `words` are all words
@@ -300,9 +335,10 @@ abbrev pub refusals_behind : (command : Text) → (rest words : List Text) → K
 refusals_behind command rest words =
     cond (bytes_eq command (codes "all")) (all_refusals rest)
     (cond (bytes_eq command (codes "random")) (random_refusals rest)
-    (cond (bytes_eq command (codes "choices") || bytes_eq command (codes "clash")) (one_run_refusals rest)
+    (cond (bytes_eq command (codes "choices")) (one_run_refusals true rest)
+    (cond (bytes_eq command (codes "clash")) (one_run_refusals false rest)
     (cond (bytes_eq command (codes "show")) (all_show_refusals rest)
-    (command_refusals words))))
+    (command_refusals words)))))
 
 abbrev pub task_refusals : List Text → Kinds
 task_refusals [] = command_refusals []

@@ -5,7 +5,7 @@ ghost use Rattle.clap.specs.Walk.{texts};
 ghost use Rattle.clap.specs.Words.{first_value, found_of, rule_of, rows_of};
 ghost use Rattle.asm_arguments.specs.Arguments as arguments;
 ghost use Rattle.asm_explore_words.specs.CommandLine as line;
-ghost use Rattle.asm_explore_words.specs.WordsSaid.{HasUnsigned, all_of, is_yes};
+ghost use Rattle.asm_explore_words.specs.WordsSaid.{HasUnsigned, MayBeUnsigned, MayHaveUnsigned, all_of, is_yes};
 
 use clap::{Arg, ArgAction, ArgMatches};
 use std::alloc::{AllocError, Global};
@@ -57,6 +57,14 @@ pub(crate) fn unsigned_of(given: &ArgMatches<'_>, name: &str) -> u64
     ensures { (text : _) → first_value (found_of given.now) name.now ≡ Some text → digits_value 10 (without_leading_plus text) ≡ result }
 {
     given.get_one::<u64>(name).unwrap()
+}
+
+/// The number of 64 bits of an option that may have one.
+pub(crate) fn unsigned_if(given: &ArgMatches<'_>, name: &str) -> Option<u64>
+    requires { MayHaveUnsigned (found_of given.now) name.now }
+    ensures { MayBeUnsigned (rows_of (found_of given.now)) name.now result }
+{
+    given.get_one::<u64>(name)
 }
 
 /// Whether a flag is among the words.

@@ -8,19 +8,18 @@ ghost use Rattle.clap.specs.declared.error.kind.ErrorKind.TheVariants.{ArgumentC
 ghost use Rattle.asm_arguments.specs.Numbers.{HaveNumbers};
 ghost use Rattle.asm_explore_words.specs.CommandLine as line;
 ghost use Rattle.asm_explore_words.specs.CommandLine.{command_refusals, named, random_refusals, refusals, run_refusals};
-ghost use Rattle.asm_explore_words.specs.WordsSaid.{AreParsed, AreRead, AreRunParsed, AreRunSaid, AreSaidBehind, IsQuestionRead, IsRefusal, all_refusals, all_rows, are_in_range, are_run_in_range, is_task_in_range, number_options, one_run_refusals, run_number_options, run_rows, task_refusals};
+ghost use Rattle.asm_explore_words.specs.WordsSaid.{AreParsed, AreRead, AreRunParsed, AreRunSaid, AreSaidBehind, IsQuestionRead, IsRefusal, IsSeedOf, MayHaveUnsigned, all_refusals, all_rows, are_in_range, are_run_in_range, is_task_in_range, number_options, one_run_refusals, run_number_options, run_rows, task_refusals};
 
-use crate::arguments::{is_set, texts_of};
+use crate::arguments::{is_set, texts_of, unsigned_if};
 use crate::commands::{Argument, described, with_arguments};
 use crate::help;
 use crate::number_options::{OUTCOMES, RUN_STEPS, STATES, STEPS, TURNS, WORKERS};
 use crate::random_words::{random, random_settings};
-use crate::settings::{
-    RunQuestion, RunSettings, Settings, Task, WordFault, is_standard_input, two_in_one,
-};
+use crate::settings::{RunQuestion, RunSettings, Settings, Task, WordFault, at_odds, run_at_odds};
 use crate::show_words::{show, show_settings};
 use crate::text_options::{
-    ALWAYS, ALWAYS_FILE, DEADLOCK_UNLESS, DOT, PROGRESS, QUIET, SCRIPT, TRACE, WITHIN,
+    ALWAYS, ALWAYS_FILE, DEADLOCK_UNLESS, DOT, DOT_ONLY, PROGRESS, QUIET, SCRIPT, TABLE, TRACE,
+    WITHIN,
 };
 use asm_arguments::numbers::number_of;
 use clap::error::ErrorKind;
@@ -43,14 +42,8 @@ const CLASH: &str = "clash";
 /// The command that shows one run as a table.
 const SHOW: &str = "show";
 
-/// The command `choices` as its help shows it.
-const CALLED_CHOICES: &str = "asm-explore choices";
-
-/// The command `clash` as its help shows it.
-const CALLED_CLASH: &str = "asm-explore clash";
-
 /// The arguments of `all`.
-static ALL_ARGUMENTS: [Argument; 14] = [
+static ALL_ARGUMENTS: [Argument; 16] = [
     Argument::Specification,
     Argument::Number(STEPS),
     Argument::Number(TURNS),
@@ -62,13 +55,51 @@ static ALL_ARGUMENTS: [Argument; 14] = [
     Argument::Number(OUTCOMES),
     Argument::Number(WORKERS),
     DOT,
+    DOT_ONLY,
     QUIET,
     TRACE,
+    TABLE,
     PROGRESS,
 ];
 
-/// The arguments of `choices` and `clash`.
-static RUN_ARGUMENTS: [Argument; 6] = [
+/// A command that tells something of one run.
+#[derive(Clone, Copy)]
+struct RunCommand {
+    /// The command as its help shows it.
+    called: &'static str,
+    /// What its help says of it.
+    about: &'static str,
+    /// Whether the choices of the run may be drawn.
+    draws: bool,
+}
+
+/// The command `choices`.
+const CHOICES_COMMAND: RunCommand = RunCommand {
+    called: "asm-explore choices",
+    about: help::CHOICES,
+    draws: true,
+};
+
+/// The command `clash`.
+const CLASH_COMMAND: RunCommand = RunCommand {
+    called: "asm-explore clash",
+    about: help::CLASH,
+    draws: false,
+};
+
+/// The arguments of `choices`.
+static CHOICES_ARGUMENTS: [Argument; 7] = [
+    Argument::Specification,
+    Argument::Number(RUN_STEPS),
+    Argument::Number(TURNS),
+    SCRIPT,
+    Argument::Draw,
+    ALWAYS,
+    ALWAYS_FILE,
+];
+
+/// The arguments of `clash`.
+static CLASH_ARGUMENTS: [Argument; 6] = [
     Argument::Specification,
     Argument::Number(RUN_STEPS),
     Argument::Number(TURNS),
@@ -88,14 +119,11 @@ pub fn settings<'w, S: AsStr>(alloc: Global, words: &'w [S]) -> Result<Task<'w>,
     match words.split_first() {
         Some((command, words)) if command.as_str() == ALL => all_task(alloc, words),
         Some((command, words)) if command.as_str() == RANDOM => random_task(alloc, words),
-        Some((command, words)) if command.as_str() == CHOICES => Ok(Task::Choices(run_settings(
-            alloc,
-            CALLED_CHOICES,
-            help::CHOICES,
-            words,
-        )?)),
+        Some((command, words)) if command.as_str() == CHOICES => {
+            Ok(Task::Choices(run_settings(alloc, CHOICES_COMMAND, words)?))
+        }
         Some((command, words)) if command.as_str() == CLASH => {
-            Ok(Task::Clash(run_settings(alloc, CALLED_CLASH, help::CLASH, words)?))
+            Ok(Task::Clash(run_settings(alloc, CLASH_COMMAND, words)?))
         }
         Some((command, words)) if command.as_str() == SHOW => {
             Ok(Task::Show(show_settings(alloc, words)?))
@@ -111,26 +139,25 @@ fn all_task<'w, S: AsStr>(alloc: Global, words: &'w [S]) -> Result<Task<'w>, Wor
     ensures refused { IfErr result (IsRefusal (all_refusals (map S.text words.entry.now))) }
 {
     let settings = all_settings(alloc, words)?;
-    let conditions = settings.always_files.as_slice();
-    if let Some(said) = two_in_one(settings.spec, conditions, settings.dot, settings.quiet) {
+    if let Some(said) = at_odds(&settings) {
         drop(settings);
-        return Err(both_are_one_file(alloc, said));
+        return Err(odds_fault(alloc, said));
     }
     Ok(Task::All(settings))
 }
 
-/// The fault of words that name one file twice, of which this is said.
-fn both_are_one_file(alloc: Global, said: &'static str) -> WordFault
+/// The fault of words that are at odds, of which this is said.
+fn odds_fault(alloc: Global, said: &'static str) -> WordFault
     ensures { IsRefusal (ArgumentConflict ∷ []) result }
 {
-    match one_file_error(alloc, said) {
+    match odds_error(alloc, said) {
         Ok(error) => error.into(),
         Err(error) => error.into(),
     }
 }
 
 /// This as what is wrong with the words after `all`.
-fn one_file_error(alloc: Global, said: &str) -> Result<Error, Error>
+fn odds_error(alloc: Global, said: &str) -> Result<Error, Error>
     ensures conflict { IfOk result (λ error. kind_of error ≡ ArgumentConflict) }
     ensures memory { IfErr result (λ error. kind_of error ≡ OutOfMemory) }
 {
@@ -150,7 +177,7 @@ fn random_task<'w, S: AsStr>(alloc: Global, words: &'w [S]) -> Result<Task<'w>, 
     Ok(Task::Random(settings))
 }
 
-/// The same settings, whether or not one file is named twice.
+/// The same settings, whether or not they are at odds.
 fn all_settings<'w, S: AsStr>(alloc: Global, words: &'w [S]) -> Result<Settings<'w>, Error>
     ensures in_range { IfOk result (λ s. IsTrue (are_in_range s)) }
     ensures taken { IfOk result (λ _. refusals (map S.text words.entry.now) ≡ []) }
@@ -182,8 +209,10 @@ fn all_read<'w>(alloc: Global, given: &ArgMatches<'w>) -> Result<Settings<'w>, A
         within: given.get_str("within"),
         workers: number_of(given, WORKERS),
         dot: given.get_str("dot"),
+        dot_only: texts_of(alloc, given, "dot-only")?,
         quiet: given.get_str("quiet"),
         trace: is_set(given, "trace"),
+        table: is_set(given, "table"),
         progress: is_set(given, "progress"),
     })
 }
@@ -208,61 +237,63 @@ fn all<'w>(alloc: Global) -> Result<Command<'w>, AllocError>
     with_arguments(alloc, command, &ALL_ARGUMENTS)
 }
 
-/// The run and the conditions that the words after `choices` or `clash` give.
+/// The run and the conditions that the words after such a command give.
 fn run_settings<'w, S: AsStr>(
     alloc: Global,
-    called: &'w str,
-    about: &'w str,
+    asked: RunCommand,
     words: &'w [S],
 ) -> Result<RunQuestion<'w>, WordFault>
     ensures in_range { IfOk result (λ question. IsTrue (are_run_in_range question.run)) }
-    ensures said { IfOk result (AreRunSaid (map S.text words.entry.now)) }
-    ensures refused { IfErr result (IsRefusal (one_run_refusals (map S.text words.entry.now))) }
+    ensures said { IfOk result (AreRunSaid asked.draws (map S.text words.entry.now)) }
+    ensures refused { IfErr result (IsRefusal (one_run_refusals asked.draws (map S.text words.entry.now))) }
 {
-    let question = run_given(alloc, called, about, words)?;
-    let run = question.run;
-    if is_standard_input(Some(run.spec)) && is_standard_input(run.script) {
+    let question = run_given(alloc, asked, words)?;
+    if let Some(said) = run_at_odds(question.run) {
         drop(question);
-        return Err(both_are_input(alloc, called, about)?.into());
+        return Err(run_odds_error(alloc, asked, said)?.into());
     }
     Ok(question)
 }
 
-/// What is to be said if the specification and the script are both to be read from the input.
-fn both_are_input<'w>(alloc: Global, called: &'w str, about: &'w str) -> Result<Error, Error>
+/// This as what is wrong with the words after such a command.
+fn run_odds_error(alloc: Global, asked: RunCommand, said: &str) -> Result<Error, Error>
     ensures conflict { IfOk result (λ error. kind_of error ≡ ArgumentConflict) }
     ensures memory { IfErr result (λ error. kind_of error ≡ OutOfMemory) }
 {
-    let mut command = run_command(alloc, called, about)?;
-    let error = command.error(ErrorKind::ArgumentConflict, help::ONE_INPUT);
+    let mut command = run_command(alloc, asked)?;
+    let error = command.error(ErrorKind::ArgumentConflict, said);
     drop(command);
     Ok(error?)
 }
 
-/// The same, whether or not the specification and the script are both standard input.
+/// The same, whether or not the settings are at odds.
 fn run_given<'w, S: AsStr>(
     alloc: Global,
-    called: &'w str,
-    about: &'w str,
+    asked: RunCommand,
     words: &'w [S],
 ) -> Result<RunQuestion<'w>, Error>
     ensures in_range { IfOk result (λ question. IsTrue (are_run_in_range question.run)) }
-    ensures taken { IfOk result (λ _. run_refusals (map S.text words.entry.now) ≡ []) }
-    ensures read { IfOk result (IsQuestionRead (run_rows (map S.text words.entry.now))) }
-    ensures refused { IfErr result (HasKind (run_refusals (map S.text words.entry.now))) }
+    ensures taken { IfOk result (λ _. run_refusals asked.draws (map S.text words.entry.now) ≡ []) }
+    ensures read { IfOk result (IsQuestionRead asked.draws (run_rows asked.draws (map S.text words.entry.now))) }
+    ensures refused { IfErr result (HasKind (run_refusals asked.draws (map S.text words.entry.now))) }
 {
-    let given = run_parsed(alloc, called, about, words)?;
-    let question = run_read(alloc, &given);
+    let given = run_parsed(alloc, asked, words)?;
+    let question = run_read(alloc, asked.draws, &given);
     drop(given);
     Ok(question?)
 }
 
-/// The run and the conditions that are among what the words after `choices` or `clash` give.
-fn run_read<'w>(alloc: Global, given: &ArgMatches<'w>) -> Result<RunQuestion<'w>, AllocError>
+/// The run and the conditions that are among what the words after such a command give.
+fn run_read<'w>(
+    alloc: Global,
+    draws: bool,
+    given: &ArgMatches<'w>,
+) -> Result<RunQuestion<'w>, AllocError>
     requires spec { is_some (first_value (found_of given.now) (codes "spec")) ≡ true }
     requires numbers { HaveNumbers (found_of given.now) run_number_options }
+    requires draw { draws ≡ true → MayHaveUnsigned (found_of given.now) (codes "draw") }
     ensures in_range { IfOk result (λ question. IsTrue (are_run_in_range question.run)) }
-    ensures read { IfOk result (IsQuestionRead (rows_of (found_of given.now))) }
+    ensures read { IfOk result (IsQuestionRead draws (rows_of (found_of given.now))) }
 {
     Ok(RunQuestion {
         run: RunSettings {
@@ -270,40 +301,50 @@ fn run_read<'w>(alloc: Global, given: &ArgMatches<'w>) -> Result<RunQuestion<'w>
             steps: number_of(given, RUN_STEPS),
             turns: number_of(given, TURNS),
             script: given.get_str("script"),
+            draw: seed_of(given, draws),
         },
         always: texts_of(alloc, given, "always")?,
         always_files: texts_of(alloc, given, "always-file")?,
     })
 }
 
-/// What the words after `choices` or `clash` give.
+/// The seed by which choices are drawn, if they may be drawn.
+fn seed_of(given: &ArgMatches<'_>, draws: bool) -> Option<u64>
+    requires { draws ≡ true → MayHaveUnsigned (found_of given.now) (codes "draw") }
+    ensures { IsSeedOf draws (rows_of (found_of given.now)) result }
+{
+    if draws {
+        unsigned_if(given, "draw")
+    } else {
+        None
+    }
+}
+
+/// What the words after such a command give.
 fn run_parsed<'w, S: AsStr>(
     alloc: Global,
-    called: &'w str,
-    about: &'w str,
+    asked: RunCommand,
     words: &'w [S],
 ) -> Result<ArgMatches<'w>, Error>
-    ensures taken { IfOk result (λ _. run_refusals (map S.text words.entry.now) ≡ []) }
-    ensures parsed { IfOk result (AreRunParsed (map S.text words.entry.now)) }
-    ensures refused { IfErr result (HasKind (run_refusals (map S.text words.entry.now))) }
+    ensures taken { IfOk result (λ _. run_refusals asked.draws (map S.text words.entry.now) ≡ []) }
+    ensures parsed { IfOk result (AreRunParsed asked.draws (map S.text words.entry.now)) }
+    ensures refused { IfErr result (HasKind (run_refusals asked.draws (map S.text words.entry.now))) }
 {
-    let command = run_command(alloc, called, about)?;
+    let command = run_command(alloc, asked)?;
     let given = command.try_get_matches_from(words)?;
     Ok(given)
 }
 
-/// What may come after `choices` or `clash`. Its help shows the command by this name, and says
-/// this of it.
-fn run_command<'w>(
-    alloc: Global,
-    called: &'w str,
-    about: &'w str,
-) -> Result<Command<'w>, AllocError>
-    ensures { IfOk result (λ c. app_of c ≡ line.run_command) }
+/// What may come after such a command.
+fn run_command<'w>(alloc: Global, asked: RunCommand) -> Result<Command<'w>, AllocError>
+    ensures { IfOk result (λ c. app_of c ≡ line.run_command asked.draws) }
 {
-    let command = Command::new(alloc, help::NAME).bin_name(called)?;
-    let command = described(command, about, help::AFTER_RUN);
-    with_arguments(alloc, command, &RUN_ARGUMENTS)
+    let command = Command::new(alloc, help::NAME).bin_name(asked.called)?;
+    let command = described(command, asked.about, help::AFTER_RUN);
+    if asked.draws {
+        return with_arguments(alloc, command, &CHOICES_ARGUMENTS);
+    }
+    with_arguments(alloc, command, &CLASH_ARGUMENTS)
 }
 
 /// The fault of words that don't begin with a command.
@@ -350,9 +391,9 @@ fn commands<'w>(alloc: Global) -> Result<Command<'w>, AllocError>
         .subcommand_required(true);
     let commands = with(commands, ALL, all(alloc))?;
     let commands = with(commands, RANDOM, random(alloc))?;
-    let choices = run_command(alloc, CALLED_CHOICES, help::CHOICES);
+    let choices = run_command(alloc, CHOICES_COMMAND);
     let commands = with(commands, CHOICES, choices)?;
-    let clash = run_command(alloc, CALLED_CLASH, help::CLASH);
+    let clash = run_command(alloc, CLASH_COMMAND);
     let commands = with(commands, CLASH, clash)?;
     with(commands, SHOW, show(alloc))
 }

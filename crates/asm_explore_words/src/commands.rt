@@ -33,6 +33,8 @@ pub(crate) enum Argument {
     Number(NumberOption),
     /// The word `--seed`, with a number of 64 bits, for which 0 stands.
     Seed,
+    /// The word `--draw`, with a number of 64 bits.
+    Draw,
     /// The word `--name`, without a value.
     Flag {
         name: &'static str,
@@ -50,6 +52,7 @@ fn stated<'w>(alloc: Global, argument: Argument) -> Arg<'w>
         Argument::Texts { name, shown, help } => texts(alloc, name, shown, help),
         Argument::Number(option) => number(alloc, option),
         Argument::Seed => unsigned(alloc, "seed", help::SEED).default_value("0"),
+        Argument::Draw => unsigned(alloc, "draw", help::DRAW),
         Argument::Flag { name, help } => flag(alloc, name, help),
     }
 }

@@ -23,6 +23,11 @@ pub const SPEC: &str = "The file that has the specification; - is standard input
 
 pub const SCRIPT: &str = "Read the choices from this file; - is standard input [without it: none]";
 
+pub const DRAW: &str =
+    "Draw the choices by this seed, as run 0 of `random --seed`: 0 to 18446744073709551615";
+
+pub const SCRIPT_AND_DRAW: &str = "the choices can't both be read from a script and be drawn";
+
 pub const ONLY: &str =
     "Show this function, or this location as in `age(2)`; may be repeated [without it: all that change]";
 
@@ -42,6 +47,11 @@ pub const SEED: &str = "Draw by this seed; another one draws other runs: 0 to 18
 
 pub const DOT: &str = "Write the graph of at most 2000 states to this file, for Graphviz";
 
+pub const DOT_ONLY: &str =
+    "Show this function, or this location as in `age(2)`, in the graph; may be repeated [without it: all]";
+
+pub const ONLY_WITHOUT_DOT: &str = "--dot-only is for a graph, and --dot names no file for one";
+
 pub const QUIET: &str =
     "Write a script to a first state that no choice of the next step changes to this file";
 
@@ -54,6 +64,8 @@ pub const OVER_CONDITION: &str =
     "the graph and the script can't be written to the file of a condition";
 
 pub const TRACE: &str = "Show the trace of the run to a fault, before its script";
+
+pub const TABLE: &str = "Show the run to a fault as a table, before its script";
 
 pub const PROGRESS: &str = "Report progress on standard error; the default if that is a terminal";
 

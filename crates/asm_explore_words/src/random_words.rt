@@ -12,14 +12,14 @@ use crate::commands::{Argument, described, with_arguments};
 use crate::help;
 use crate::number_options::{RANDOM_OUTCOMES, RANDOM_STEPS, RUNS, TURNS};
 use crate::settings::RandomSettings;
-use crate::text_options::{ALWAYS, ALWAYS_FILE, DEADLOCK_UNLESS, PROGRESS, TRACE};
+use crate::text_options::{ALWAYS, ALWAYS_FILE, DEADLOCK_UNLESS, PROGRESS, TABLE, TRACE};
 use asm_arguments::numbers::number_of;
 use clap::{ArgMatches, Command, Error};
 use std::alloc::{AllocError, Global};
 use std::convert::AsStr;
 
 /// The arguments of `random`.
-static RANDOM_ARGUMENTS: [Argument; 11] = [
+static RANDOM_ARGUMENTS: [Argument; 12] = [
     Argument::Specification,
     Argument::Number(RANDOM_STEPS),
     Argument::Number(TURNS),
@@ -30,6 +30,7 @@ static RANDOM_ARGUMENTS: [Argument; 11] = [
     Argument::Number(RUNS),
     Argument::Seed,
     TRACE,
+    TABLE,
     PROGRESS,
 ];
 
@@ -68,6 +69,7 @@ fn random_read<'w>(alloc: Global, given: &ArgMatches<'w>) -> Result<RandomSettin
         runs: number_of(given, RUNS),
         seed: unsigned_of(given, "seed"),
         trace: is_set(given, "trace"),
+        table: is_set(given, "table"),
         progress: is_set(given, "progress"),
     })
 }

@@ -1,7 +1,7 @@
 //! What the program is asked to do.
-ghost use Rattle.std.specs.Prelude.{◌≡◌, Some, is_some, option_map};
+ghost use Rattle.std.specs.Prelude.{◌≡◌, ◌||◌, Some, is_some, option_map};
 ghost use Rattle.clap.specs.Walk.{texts};
-ghost use Rattle.asm_explore_words.specs.WordsSaid.{IsFaultOf, are_two_in_one, is_input, is_one_file, is_over_conditions, is_over_text};
+ghost use Rattle.asm_explore_words.specs.WordsSaid.{IsFaultOf, are_two_in_one, chooses_twice, is_input, is_one_file, is_over_conditions, is_over_text, lacks_graph, reads_input_twice};
 ghost use Rattle.asm_explore_words.specs.declared.settings.WordFault.TheVariants.{Memory};
 
 use crate::help;
@@ -49,10 +49,14 @@ pub struct Settings<'w> {
     pub workers: u32,
     /// The name of the file to which the graph of states is written, if there is one.
     pub dot: Option<&'w str>,
+    /// The functions and locations that a node of the graph shows; if there are none, all.
+    pub dot_only: Vec<&'w str>,
     /// The name of the file to which a script to the first quiet state is written, if there is one.
     pub quiet: Option<&'w str>,
     /// Whether the trace of the run that is found is shown.
     pub trace: bool,
+    /// Whether that run is shown as a table.
+    pub table: bool,
     /// Whether lines tell how far it is, on standard error.
     pub progress: bool,
 }
@@ -80,6 +84,8 @@ pub struct RandomSettings<'w> {
     pub seed: u64,
     /// Whether the trace of the run that is found is shown.
     pub trace: bool,
+    /// Whether that run is shown as a table.
+    pub table: bool,
     /// Whether lines tell how far it is, on standard error.
     pub progress: bool,
 }
@@ -106,6 +112,9 @@ pub struct RunSettings<'w> {
     pub turns: u32,
     /// The name of the script's file, if there is one; `-` is standard input.
     pub script: Option<&'w str>,
+    /// At each `choose` is drawn what this seed gives, as in run 0 of `random --seed`; if there is
+    /// none, nothing is drawn.
+    pub draw: Option<u64>,
 }
 
 /// What the words after `show` ask for.
@@ -151,9 +160,42 @@ impl From<Error> for WordFault {
     }
 }
 
+/// What is to be said of settings that are at odds.
+pub(crate) fn at_odds(settings: &Settings<'_>) -> Option<&'static str>
+    ensures { is_some result ≡ (are_two_in_one (Some settings.now.spec.now) (texts settings.now.always_files.items) (option_map (λ text. text.now) settings.now.dot) (option_map (λ text. text.now) settings.now.quiet)
+        || lacks_graph (texts settings.now.dot_only.items) (option_map (λ text. text.now) settings.now.dot)) }
+{
+    let conditions = settings.always_files.as_slice();
+    match two_in_one(settings.spec, conditions, settings.dot, settings.quiet) {
+        Some(said) => Some(said),
+        None if has_no_graph(&settings.dot_only, settings.dot) => Some(help::ONLY_WITHOUT_DOT),
+        None => None,
+    }
+}
+
+/// Whether names are given for a graph, and no file for it.
+fn has_no_graph(names: &[&str], dot: Option<&str>) -> bool
+    ensures { result ≡ lacks_graph (texts names.now) (option_map (λ text. text.now) dot.entry) }
+{
+    !names.is_empty() && dot.is_none()
+}
+
+/// What is to be said of settings of a run that are at odds.
+pub(crate) fn run_at_odds(run: RunSettings<'_>) -> Option<&'static str>
+    ensures { is_some result ≡ (reads_input_twice run.entry || chooses_twice run.entry) }
+{
+    if is_standard_input(Some(run.spec)) && is_standard_input(run.script) {
+        return Some(help::ONE_INPUT);
+    }
+    if run.script.is_some() && run.draw.is_some() {
+        return Some(help::SCRIPT_AND_DRAW);
+    }
+    None
+}
+
 /// What is to be said if the graph and the script would be in one file, or one of them in the file
 /// of the specification or of a condition, by these names.
-pub(crate) fn two_in_one(
+fn two_in_one(
     spec: &str,
     conditions: &[&str],
     dot: Option<&str>,
@@ -214,7 +256,7 @@ fn is_named(name: &str, file: Option<&str>) -> bool
 }
 
 /// Whether the file with this name is standard input.
-pub(crate) fn is_standard_input(name: Option<&str>) -> bool
+fn is_standard_input(name: Option<&str>) -> bool
     ensures { result ≡ is_input (option_map (λ text. text.now) name.entry) }
 {
     match name {

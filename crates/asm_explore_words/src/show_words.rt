@@ -7,13 +7,13 @@ ghost use Rattle.clap.specs.declared.error.kind.ErrorKind.TheVariants.{ArgumentC
 ghost use Rattle.asm_arguments.specs.Numbers.{HaveNumbers};
 ghost use Rattle.asm_explore_words.specs.CommandLine as line;
 ghost use Rattle.asm_explore_words.specs.CommandLine.{show_refusals};
-ghost use Rattle.asm_explore_words.specs.WordsSaid.{AreShowParsed, AreShowRead, AreShowSaid, IsRefusal, all_show_refusals, are_show_in_range, show_number_options, show_rows};
+ghost use Rattle.asm_explore_words.specs.WordsSaid.{AreShowParsed, AreShowRead, AreShowSaid, IsRefusal, MayHaveUnsigned, all_show_refusals, are_show_in_range, show_number_options, show_rows};
 
-use crate::arguments::texts_of;
+use crate::arguments::{texts_of, unsigned_if};
 use crate::commands::{Argument, described, with_arguments};
 use crate::help;
 use crate::number_options::{RUN_STEPS, TURNS, WIDTH};
-use crate::settings::{RunSettings, ShowSettings, WordFault, is_standard_input};
+use crate::settings::{RunSettings, ShowSettings, WordFault, run_at_odds};
 use crate::text_options::{ALWAYS, ALWAYS_FILE, ONLY, SCRIPT};
 use asm_arguments::numbers::number_of;
 use clap::error::ErrorKind;
@@ -22,11 +22,12 @@ use std::alloc::{AllocError, Global};
 use std::convert::AsStr;
 
 /// The arguments of `show`.
-static SHOW_ARGUMENTS: [Argument; 8] = [
+static SHOW_ARGUMENTS: [Argument; 9] = [
     Argument::Specification,
     Argument::Number(RUN_STEPS),
     Argument::Number(TURNS),
     SCRIPT,
+    Argument::Draw,
     ALWAYS,
     ALWAYS_FILE,
     ONLY,
@@ -43,26 +44,25 @@ pub(crate) fn show_settings<'w, S: AsStr>(
     ensures refused { IfErr result (IsRefusal (all_show_refusals (map S.text words.entry.now))) }
 {
     let settings = show_given(alloc, words)?;
-    let run = settings.run;
-    if is_standard_input(Some(run.spec)) && is_standard_input(run.script) {
+    if let Some(said) = run_at_odds(settings.run) {
         drop(settings);
-        return Err(both_are_input(alloc)?.into());
+        return Err(odds_error(alloc, said)?.into());
     }
     Ok(settings)
 }
 
-/// What is to be said if the specification and the script are both to be read from the input.
-fn both_are_input(alloc: Global) -> Result<Error, Error>
+/// This as what is wrong with the words after `show`.
+fn odds_error(alloc: Global, said: &str) -> Result<Error, Error>
     ensures conflict { IfOk result (λ error. kind_of error ≡ ArgumentConflict) }
     ensures memory { IfErr result (λ error. kind_of error ≡ OutOfMemory) }
 {
     let mut command = show(alloc)?;
-    let error = command.error(ErrorKind::ArgumentConflict, help::ONE_INPUT);
+    let error = command.error(ErrorKind::ArgumentConflict, said);
     drop(command);
     Ok(error?)
 }
 
-/// The same settings, whether or not the specification and the script are both standard input.
+/// The same settings, whether or not they are at odds.
 fn show_given<'w, S: AsStr>(alloc: Global, words: &'w [S]) -> Result<ShowSettings<'w>, Error>
     ensures in_range { IfOk result (λ s. IsTrue (are_show_in_range s)) }
     ensures taken { IfOk result (λ _. show_refusals (map S.text words.entry.now) ≡ []) }
@@ -79,6 +79,7 @@ fn show_given<'w, S: AsStr>(alloc: Global, words: &'w [S]) -> Result<ShowSetting
 fn show_read<'w>(alloc: Global, given: &ArgMatches<'w>) -> Result<ShowSettings<'w>, AllocError>
     requires spec { is_some (first_value (found_of given.now) (codes "spec")) ≡ true }
     requires numbers { HaveNumbers (found_of given.now) show_number_options }
+    requires draw { MayHaveUnsigned (found_of given.now) (codes "draw") }
     ensures in_range { IfOk result (λ s. IsTrue (are_show_in_range s)) }
     ensures read { IfOk result (AreShowRead (rows_of (found_of given.now))) }
 {
@@ -88,6 +89,7 @@ fn show_read<'w>(alloc: Global, given: &ArgMatches<'w>) -> Result<ShowSettings<'
             steps: number_of(given, RUN_STEPS),
             turns: number_of(given, TURNS),
             script: given.get_str("script"),
+            draw: unsigned_if(given, "draw"),
         },
         always: texts_of(alloc, given, "always")?,
         always_files: texts_of(alloc, given, "always-file")?,

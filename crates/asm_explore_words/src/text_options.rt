@@ -37,6 +37,13 @@ pub(crate) const DOT: Argument = Argument::Text {
     help: help::DOT,
 };
 
+/// Of `Settings::dot_only`.
+pub(crate) const DOT_ONLY: Argument = Argument::Texts {
+    name: "dot-only",
+    shown: "NAME",
+    help: help::DOT_ONLY,
+};
+
 /// Of `Settings::quiet`.
 pub(crate) const QUIET: Argument = Argument::Text {
     name: "quiet",
@@ -62,6 +69,12 @@ pub(crate) const ONLY: Argument = Argument::Texts {
 pub(crate) const TRACE: Argument = Argument::Flag {
     name: "trace",
     help: help::TRACE,
+};
+
+/// Of `Settings::table`.
+pub(crate) const TABLE: Argument = Argument::Flag {
+    name: "table",
+    help: help::TABLE,
 };
 
 /// Of `Settings::progress`.

@@ -16,7 +16,9 @@ returns-clause-read c =
       when_quiet = c.get_str-2.ensures ∙ sym (first_of_rows f (codes "deadlock-unless"));
       within = c.get_str-3.ensures ∙ sym (first_of_rows f (codes "within"));
       dot = c.get_str-4.ensures ∙ sym (first_of_rows f (codes "dot"));
+      dot_only = c.in_ok-texts_of-3.ensures;
       quiet = c.get_str-5.ensures ∙ sym (first_of_rows f (codes "quiet"));
       trace = c.is_set.ensures ∙ ap is_yes (sym (first_of_rows f (codes "trace")));
-      progress = c.is_set-2.ensures ∙ ap is_yes (sym (first_of_rows f (codes "progress")));
+      table = c.is_set-2.ensures ∙ ap is_yes (sym (first_of_rows f (codes "table")));
+      progress = c.is_set-3.ensures ∙ ap is_yes (sym (first_of_rows f (codes "progress")));
     }

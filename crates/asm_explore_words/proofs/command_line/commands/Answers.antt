@@ -1,4 +1,4 @@
-use Rattle.std.proofs.Common.{◌≡◌, ◌∙◌, true, ap, codes}
+use Rattle.std.proofs.Common.{◌≡◌, ◌∙◌, true, false, ap, codes}
 use Rattle.std.proofs.lemmas.Result.{IfOk-weaker}
 use Rattle.clap.specs.Simple.{App, app_of, app_of_fields, new_app, on_top, with_subcommand}
 use Rattle.asm_explore_words.specs.CommandLine.{command, commands, named, random_command, run_command, show_command}
@@ -30,7 +30,7 @@ returns c =
     c.in_ok-commands.ensures command command_is_plain c.all.ensures ∙ ap (λ app. with_subcommand app (named (codes "all") command)) start in
     let two : app_of c.in_ok-commands-2.commands ≡ with_subcommand (with_subcommand alone (named (codes "all") command)) (named (codes "random") random_command) =
     c.in_ok-commands-2.ensures random_command random_is_plain c.random.ensures ∙ ap (λ app. with_subcommand app (named (codes "random") random_command)) one in
-    let three = c.in_ok-commands-3.ensures run_command run_is_plain c.run_command-choices.ensures ∙ ap (λ app. with_subcommand app (named (codes "choices") run_command)) two in
-    let four = c.in_ok-commands-4.ensures run_command run_is_plain c.run_command-clash.ensures ∙ ap (λ app. with_subcommand app (named (codes "clash") run_command)) three in
+    let three = c.in_ok-commands-3.ensures (run_command true) (run_is_plain true) c.run_command-choices.ensures ∙ ap (λ app. with_subcommand app (named (codes "choices") (run_command true))) two in
+    let four = c.in_ok-commands-4.ensures (run_command false) (run_is_plain false) c.run_command-clash.ensures ∙ ap (λ app. with_subcommand app (named (codes "clash") (run_command false))) three in
     IfOk-weaker c.with-5.result _ _ (λ m added. added ∙ ap (λ app. with_subcommand app (named (codes "show") show_command)) four)
     (c.with-5.ensures show_command show_is_plain c.show.ensures)

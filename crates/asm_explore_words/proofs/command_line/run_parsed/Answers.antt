@@ -5,7 +5,7 @@ use Rattle.clap.specs.Kinds.{HasKind}
 use Rattle.clap.specs.Simple.{App, is_simple, matches_of}
 use Rattle.clap.specs.declared.error.Error.{Error}
 use Rattle.asm_explore_words.specs.CommandLine.{run_refusals}
-use Rattle.asm_explore_words.proofs.RunOptions.{is_free, is_plain, numbers, spec}
+use Rattle.asm_explore_words.proofs.RunOptions.{is_free, is_plain, numbers, seed, spec}
 use Rattle.asm_explore_words.proofs.command_line.run_parsed.Goals as goal
 
 pub returns-in_err-given-clause-refused : goal.returns-in_err-given-clause-refused
@@ -13,15 +13,15 @@ returns-in_err-given-clause-refused g c =
     let p = err_from_is_err_and c.from_residual-in_err-given.result c.from_residual-in_err-given.ensures.1 in
     let is = c.in_ok-command.ensures in
     let words = map g.S.AsStr.text c.args.words.now in
-    let kinds = c.in_err-given.ensures.kinds (ap is_simple_and_free is ∙ is_free) in
-    let named : HasKind (run_refusals words) c.in_err-given.field-0.0 = subst (λ (app : App). HasKind (fault_of app words) c.in_err-given.field-0.0) is kinds in
-    rw p.1 (subst (λ (e : Error). HasKind (run_refusals words) e) (sym p.2) named)
+    let kinds = c.in_err-given.ensures.kinds (ap is_simple_and_free is ∙ is_free c.args.asked.draws) in
+    let named : HasKind (run_refusals c.args.asked.draws words) c.in_err-given.field-0.0 = subst (λ (app : App). HasKind (fault_of app words) c.in_err-given.field-0.0) is kinds in
+    rw p.1 (subst (λ (e : Error). HasKind (run_refusals c.args.asked.draws words) e) (sym p.2) named)
 
 pub returns-clause-taken : goal.returns-clause-taken
 returns-clause-taken g c =
     let is = c.in_ok-command.ensures in
     ap (λ (app : App). fault_of app (map g.S.AsStr.text c.args.words.now)) (sym is)
-    ∙ c.in_ok-given.ensures.kinds (ap is_simple_and_free is ∙ is_free)
+    ∙ c.in_ok-given.ensures.kinds (ap is_simple_and_free is ∙ is_free c.args.asked.draws)
 
 pub returns-clause-parsed : goal.returns-clause-parsed
 returns-clause-parsed g c =
@@ -30,7 +30,8 @@ returns-clause-parsed g c =
     let m = c.in_ok-given.given in
     let p = c.in_ok-given.ensures.parsed in
     record {
-      rows = (c.in_ok-given.ensures.matches (ap is_simple is ∙ is_plain)).0 ∙ ap (λ app. matches_of app words) is;
-      spec = spec c.in_ok-command.command m p is;
-      numbers = numbers c.in_ok-command.command m p is;
+      rows = (c.in_ok-given.ensures.matches (ap is_simple is ∙ is_plain c.args.asked.draws)).0 ∙ ap (λ app. matches_of app words) is;
+      spec = spec c.in_ok-command.command m p c.args.asked.draws is;
+      numbers = numbers c.in_ok-command.command m p c.args.asked.draws is;
+      draw = seed c.in_ok-command.command m p c.args.asked.draws is;
     }

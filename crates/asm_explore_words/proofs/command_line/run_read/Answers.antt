@@ -12,6 +12,7 @@ returns-clause-read c =
         spec = first_of_rows f (codes "spec") ∙ (sym c.get_str.ensures ∙ ap (option_map (λ text. text.now)) c.unwrap.ensures);
         numbers = (c.number_of.ensures.said, (c.number_of-2.ensures.said, tt));
         script = c.get_str-2.ensures ∙ sym (first_of_rows f (codes "script"));
+        draw = c.seed_of.ensures;
       };
       always = c.in_ok-texts_of.ensures;
       always_files = c.in_ok-texts_of-2.ensures;

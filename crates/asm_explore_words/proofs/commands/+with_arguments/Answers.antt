@@ -5,7 +5,7 @@ use Rattle.asm_arguments.specs.Arguments.{with_rules}
 use Rattle.asm_arguments.proofs.Rules.{grown}
 use Rattle.asm_explore_words.specs.code.ArgumentRules.{rule_for}
 use Rattle.asm_explore_words.specs.declared.commands.Argument.{Argument}
-use Rattle.asm_explore_words.specs.declared.commands.Argument.TheVariants.{Specification, Text, Texts, Number, Seed, Flag}
+use Rattle.asm_explore_words.specs.declared.commands.Argument.TheVariants.{Specification, Text, Texts, Number, Seed, Draw, Flag}
 use Rattle.asm_explore_words.proofs.commands.+with_arguments.Goals as goal
 
 simple : (argument : Argument) → (rule_for argument).is_simple ≡ true
@@ -14,6 +14,7 @@ simple (Text name shown help) = refl
 simple (Texts name shown help) = refl
 simple (Number option) = refl
 simple Seed = refl
+simple Draw = refl
 simple (Flag name help) = refl
 
 pub with_arguments-requires : goal.with_arguments-requires

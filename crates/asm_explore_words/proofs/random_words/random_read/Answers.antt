@@ -17,5 +17,6 @@ returns-clause-read c =
       when_quiet = c.get_str-2.ensures ∙ sym (first_of_rows f (codes "deadlock-unless"));
       seed = is_unsigned f _ c.requires.seed c.unsigned_of.result c.unsigned_of.ensures _ refl;
       trace = c.is_set.ensures ∙ ap is_yes (sym (first_of_rows f (codes "trace")));
-      progress = c.is_set-2.ensures ∙ ap is_yes (sym (first_of_rows f (codes "progress")));
+      table = c.is_set-2.ensures ∙ ap is_yes (sym (first_of_rows f (codes "table")));
+      progress = c.is_set-3.ensures ∙ ap is_yes (sym (first_of_rows f (codes "progress")));
     }

@@ -5,7 +5,7 @@ use Rattle.clap.specs.Kinds.{HasKind}
 use Rattle.clap.specs.Simple.{App, is_simple, matches_of}
 use Rattle.clap.specs.declared.error.Error.{Error}
 use Rattle.asm_explore_words.specs.CommandLine.{show_refusals}
-use Rattle.asm_explore_words.proofs.ShowOptions.{is_free, is_plain, numbers, spec}
+use Rattle.asm_explore_words.proofs.ShowOptions.{is_free, is_plain, numbers, seed, spec}
 use Rattle.asm_explore_words.proofs.show_words.show_parsed.Goals as goal
 
 pub returns-in_err-given-clause-refused : goal.returns-in_err-given-clause-refused
@@ -33,4 +33,5 @@ returns-clause-parsed g c =
       rows = (c.in_ok-given.ensures.matches (ap is_simple is ∙ is_plain)).0 ∙ ap (λ app. matches_of app words) is;
       spec = spec c.in_ok-command.command m p is;
       numbers = numbers c.in_ok-command.command m p is;
+      draw = seed c.in_ok-command.command m p is;
     }
