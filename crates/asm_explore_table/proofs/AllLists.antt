@@ -4,7 +4,7 @@
 --     all_both               if it follows from what is so of all, and what else is
 --     all_swapped            of each of some and each of others, in either order
 --     short_more             texts that are no longer than a number are no longer than a greater one
-use Rattle.std.proofs.Common.{◌≤◌, ◌<◌, ℕ, zero, suc, List, [], ◌∷◌, ◌++◌, length, le_trans}
+use Rattle.std.proofs.Common.{◌≤◌, ℕ, List, [], ◌∷◌, ◌++◌, length, le_trans}
 use Rattle.std.specs.Prelude.{All}
 use Rattle.std.specs.List.{flat_map}
 use Rattle.std.proofs.lemmas.List.Elements.{All-append, All-cons, All-head, All-nil, All-tail, All-weaker}

@@ -1,11 +1,11 @@
 -- Free. Blocks whose columns are laid are clear.
 --     texts_short        texts in a column are no longer than it is wide
 --     block_clear        a block that is laid is clear
-use Rattle.std.proofs.Common.{◌≡◌, ◌∙◌, ◌+◌, ◌<◌, ◌≤◌, ◌⊎◌, inl, inr, max, Bool, true, false, cond, ℕ, zero, suc, List, [], ◌∷◌, length, Option, Some, None, codes, nat_eq, ap, refl, sym, arith, le_trans}
-use Rattle.std.specs.Prelude.{All, IfSome, ⊤}
+use Rattle.std.proofs.Common.{◌≡◌, ◌∙◌, ◌+◌, ◌<◌, ◌≤◌, ◌⊎◌, inl, inr, max, Bool, true, false, cond, ℕ, List, [], ◌∷◌, length, Option, Some, None, codes, nat_eq, refl, arith, le_trans}
+use Rattle.std.specs.Prelude.{All}
 use Rattle.std.specs.List.{flat_map}
 use Rattle.std.proofs.lemmas.Bool.{eqb-true}
-use Rattle.std.proofs.lemmas.List.Elements.{All-append, All-cons, All-head, All-nil, All-tail, All-weaker}
+use Rattle.std.proofs.lemmas.List.Elements.{All-cons, All-head, All-nil, All-tail, All-weaker}
 use Rattle.asm_state.specs.Location.{State, function_of}
 use Rattle.asm_state.specs.Signature.{count_of}
 use Rattle.asm_syntax.specs.SourceTree.{Spec}
@@ -14,12 +14,12 @@ use Rattle.asm_run.specs.Trace.{function_text}
 use Rattle.asm_run.specs.Written.{names_in}
 use Rattle.asm_explore_table.specs.ChosenTexts.{chosen_lines}
 use Rattle.asm_explore_table.specs.Rows.{Row}
-use Rattle.asm_explore_table.specs.Tables.{AreClear, IsBefore, IsChosenClear, IsClear, IsClearBlock, arguments_head, cells_after, chosen_texts, function_head, is_after, numbered, shown_value, texts_in}
+use Rattle.asm_explore_table.specs.Tables.{AreClear, IsBefore, IsChosenClear, IsClear, IsClearBlock, arguments_head, cells_after, chosen_texts, is_after, numbered, shown_value, texts_in}
 use Rattle.asm_explore_table.specs.declared.block.Block.{Block}
 use Rattle.asm_explore_table.specs.declared.block.Column.{Column}
 use Rattle.asm_explore_table.specs.declared.extent.Extent.{Extent}
 use Rattle.asm_explore_table.specs.declared.layout.Reached.{Reached}
-use Rattle.asm_explore_table.specs.code.Extents.{AreShort, HasShortCells, HasShortChoices, IsExtentOf, width_in}
+use Rattle.asm_explore_table.specs.code.Extents.{AreShort, HasShortChoices, IsExtentOf, width_in}
 use Rattle.asm_explore_table.specs.code.Layouts.{AreLaid, IsChosenStart, IsLaid, reached_first, start_behind, unplaced, up_to, width_of_steps, with_column}
 use Rattle.asm_explore_table.proofs.AllLists.{all_flat, short_more}
 
@@ -98,11 +98,14 @@ module _ (s : Spec) (extent : Extent) where
         let next = with_column reached (unplaced s extent c.location) in
         let f = function_at c in
         let start = start_behind reached f in
-        let texts = All-head HasShortTexts c columns short in
-        (All-weaker (IsLater next.end f next.name_end) (IsClear s first rows reached.function c)
-        (λ d behind. (All-weaker (λ (t : List ℕ). length t ≤ width_at c) (IsBefore c.start d) (each_before c next.end f reached.name_end start laid.0 refl d behind.0) (texts_in s first rows c.location) texts,
-        named_before c next.end f reached.name_end start laid.0 refl (is_after f reached.function) d behind.0 behind.1)) columns (later next.end f next.name_end columns laid.1),
-        are_clear next columns laid.1 (All-tail HasShortTexts c columns short))
+        let texts = All-head HasShortTexts c columns short in (
+          All-weaker (IsLater next.end f next.name_end) (IsClear s first rows reached.function c)
+              (λ d behind. (
+                All-weaker (λ (t : List ℕ). length t ≤ width_at c) (IsBefore c.start d) (each_before c next.end f reached.name_end start laid.0 refl d behind.0) (texts_in s first rows c.location) texts,
+                named_before c next.end f reached.name_end start laid.0 refl (is_after f reached.function) d behind.0 behind.1,
+              )) columns (later next.end f next.name_end columns laid.1),
+          are_clear next columns laid.1 (All-tail HasShortTexts c columns short),
+        )
 
     -- ---- what is chosen
 
@@ -122,8 +125,8 @@ module _ (s : Spec) (extent : Extent) where
         let most = max 6 extent.chosen_width in (
           omega (arith, begins),
           All-weaker (λ d. start + most + 2 ≤ d.start) (λ d. All (IsBefore start d) (chosen_texts s first rows))
-          (λ d far. All-weaker (λ (t : List ℕ). length t ≤ most) (IsBefore start d) (λ t fits. omega (arith, far, fits)) (chosen_texts s first rows) (short_choices all))
-          columns (all_behind (start + most) columns laid),
+              (λ d far. All-weaker (λ (t : List ℕ). length t ≤ most) (IsBefore start d) (λ t fits. omega (arith, far, fits)) (chosen_texts s first rows) (short_choices all))
+              columns (all_behind (start + most) columns laid),
         )
 
     pub block_clear : (most : ℕ) (block : Block) → IsLaid s extent most block → All HasShortTexts block.columns.items → All (HasShortChoices s extent.chosen_width) rows

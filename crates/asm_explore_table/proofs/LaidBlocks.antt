@@ -5,7 +5,7 @@
 --     added_numbers    the locations of a block, and of one column more
 --     added_laid       a block is laid with one column more, if it is wide enough
 --     added_reached    and reaches as far as it
-use Rattle.std.proofs.Common.{◌≡◌, ◌∙◌, ◌+◌, ◌≤◌, ◌⊎◌, ◌++◌, inl, inr, Bool, true, false, ℕ, suc, List, [], ◌∷◌, length, map, Option, Some, None, ap, refl, subst, sym, arith, length-append}
+use Rattle.std.proofs.Common.{◌≡◌, ◌∙◌, ◌+◌, ◌≤◌, ◌⊎◌, ◌++◌, inl, inr, Bool, true, false, ℕ, suc, List, [], ◌∷◌, length, map, Option, ap, refl, subst, sym, arith, length-append}
 use Rattle.std.specs.Prelude.{All}
 use Rattle.std.proofs.lemmas.List.{map-append}
 use Rattle.std.proofs.lemmas.List.Elements.{All-head, All-nil, All-push, All-tail}

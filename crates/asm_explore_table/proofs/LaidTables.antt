@@ -1,7 +1,7 @@
 -- Free. What is found of a run says of blocks that are laid.
 --     laid_clear       each of them is clear
 --     laid_fits        no line of one is longer than was asked, but of one with a column
-use Rattle.std.proofs.Common.{◌≡◌, ◌+◌, ◌<◌, ◌≤◌, ◌⊎◌, ◌^◌, inl, inr, ℕ, List, length, arith, le_trans}
+use Rattle.std.proofs.Common.{◌+◌, ◌<◌, ◌≤◌, ◌⊎◌, ◌^◌, inl, inr, ℕ, List, length, arith}
 use Rattle.std.specs.Prelude.{All}
 use Rattle.std.proofs.lemmas.List.Elements.{All-weaker}
 use Rattle.asm_state.specs.Location.{State}

@@ -1,7 +1,7 @@
 -- Free. How long the lines of a block are.
 --     block_short      none reaches further than its columns and the names above them
-use Rattle.std.proofs.Common.{◌≡◌, ◌∙◌, ◌+◌, ◌-◌, ◌<◌, ◌≤◌, ◌⊎◌, ◌^◌, inl, inr, max, Bool, true, false, cond, ℕ, zero, suc, List, [], ◌∷◌, ◌++◌, length, map, Option, Some, None, codes, decimal, nat_eq, ap, refl, sym, arith, le_trans, length-append}
-use Rattle.std.specs.Prelude.{All, IfSome}
+use Rattle.std.proofs.Common.{◌≡◌, ◌+◌, ◌-◌, ◌<◌, ◌≤◌, ◌^◌, max, Bool, true, false, cond, ℕ, zero, suc, List, [], ◌∷◌, ◌++◌, length, Option, Some, None, codes, decimal, nat_eq, ap, refl, arith, le_trans, length-append}
+use Rattle.std.specs.Prelude.{All}
 use Rattle.std.specs.List.{flat_map}
 use Rattle.std.proofs.lemmas.List.Elements.{All-append, All-cons, All-head, All-map, All-nil, All-tail, All-weaker}
 use Rattle.asm_state.specs.Location.{State, function_of}
@@ -11,13 +11,13 @@ use Rattle.asm_run.specs.Written.{names_in}
 use Rattle.asm_explore_table.specs.ChosenTexts.{chosen_lines}
 use Rattle.asm_explore_table.specs.Lines.{aligned, blanks, placed}
 use Rattle.asm_explore_table.specs.Rows.{Row}
-use Rattle.asm_explore_table.specs.Tables.{arguments_head, begun, block_lines, cell, cells_after, first_row, function_head, further_lines, heads, is_after, lines_with, numbered, row_lines, rows_from, shown_value, texts_in, unless_blank, with_cells, with_chosen, with_functions, with_row}
+use Rattle.asm_explore_table.specs.Tables.{arguments_head, begun, block_lines, cell, cells_after, first_row, function_head, further_lines, heads, is_after, lines_with, numbered, row_lines, rows_from, shown_value, unless_blank, with_cells, with_chosen, with_functions, with_row}
 use Rattle.asm_explore_table.specs.declared.block.Block.{Block}
 use Rattle.asm_explore_table.specs.declared.block.Column.{Column}
 use Rattle.asm_explore_table.specs.declared.extent.Extent.{Extent}
 use Rattle.asm_explore_table.specs.declared.layout.Reached.{Reached}
 use Rattle.asm_explore_table.specs.code.Extents.{AreShort, HasShortCells, HasShortChoices}
-use Rattle.asm_explore_table.specs.code.Layouts.{AreLaid, IsChosenStart, IsLaid, end_of, reached_by, reached_first, reached_with, start_behind, unplaced, up_to, width_of_steps, with_column}
+use Rattle.asm_explore_table.specs.code.Layouts.{AreLaid, IsChosenStart, end_of, reached_by, reached_first, reached_with, unplaced, up_to, width_of_steps, with_column}
 use Rattle.asm_explore_table.proofs.ClearTables.{HasShortTexts, width_at}
 use Rattle.asm_explore_table.proofs.DecimalLengths.{digits_grow, one_digit}
 

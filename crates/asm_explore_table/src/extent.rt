@@ -53,11 +53,7 @@ fn longest(most: usize, lines: &[Vec<u8>]) -> usize
 }
 
 /// How wide the cells of the first row are.
-fn first_widths(
-    alloc: Global,
-    checked: &Checked,
-    state: &State,
-) -> Result<Vec<usize>, AllocError>
+fn first_widths(alloc: Global, checked: &Checked, state: &State) -> Result<Vec<usize>, AllocError>
     requires { IsStateOf (shape_of (spec_of checked.now.spec)) state.now }
     ensures whole { IfOk result (λ widths. length widths.items ≡ count_of (shape_of (spec_of checked.now.spec))) }
     ensures wide { let s = spec_of checked.now.spec in IfOk result (λ widths. (n : ℕ) → n < count_of (shape_of s) →

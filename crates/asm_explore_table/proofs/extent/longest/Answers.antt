@@ -1,5 +1,5 @@
-use Rattle.std.proofs.Common.{◌≤◌, Global, ℕ, List, Vec, arith, length, le_trans, subst, sym, take, take_all}
-use Rattle.std.specs.Prelude.{All, map}
+use Rattle.std.proofs.Common.{◌≤◌, Global, ℕ, List, Vec, arith, length, le_trans, subst, take, take_all}
+use Rattle.std.specs.Prelude.{All}
 use Rattle.std.proofs.lemmas.List.Elements.{All-map, All-more, All-weaker}
 use Rattle.asm_explore_table.proofs.extent.longest.Goals as goal
 

@@ -23,7 +23,7 @@ loop-k-preserved c =
     let start = subst (IsChosenStart extent) none tt in
     let begins = c.new.ensures.reached ∙ ap up_to c.in_ok-steps.ensures ∙ ap (reached_first extent) none in
     let room = room_made s extent most l.blocks.items bs l.begun begun c.new.result column l.invariant.laid l.invariant.reached l.invariant.filled c.new.ensures.empty start begins
-        c.in_ok-is_full.is_full c.in_ok-is_full.ensures c.in_ok-make_room.ensures.kept c.in_ok-make_room.ensures.ended in
+    c.in_ok-is_full.is_full c.in_ok-is_full.ensures c.in_ok-make_room.ensures.kept c.in_ok-make_room.ensures.ended in
     let is = c.in_ok-column.ensures in
     let same = c.in_ok-add.ensures.chosen in
     let added = c.in_ok-add.ensures.added in
