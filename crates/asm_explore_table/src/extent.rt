@@ -15,7 +15,7 @@ ghost use Rattle.asm_explore_table.specs.Tables.{cell as cell_text, numbered, sh
 ghost use Rattle.asm_explore_table.specs.code.Extents.{AreShort, HasRoom, IsExtentOf, IsWidened, width_in};
 ghost use Rattle.asm_explore_table.specs.code.StepsMade.{row_said};
 
-use crate::cells::{push_cell, push_shown};
+use crate::cells::{is_same_value, push_shown};
 use crate::changes::note_changes;
 use crate::chosen_lines::chosen_lines;
 use crate::step_row::{StepRow, step_row};
@@ -24,6 +24,9 @@ use asm_reader::Picks;
 use asm_state::state::State;
 use asm_step::ResolvedSpecification;
 use std::alloc::{AllocError, Global};
+
+/// How wide a cell is whose value is as before.
+const SAME_WIDTH: usize = 1;
 
 /// What the rows of a run have.
 #[derive(Drop)]
@@ -69,6 +72,29 @@ fn first_widths(alloc: Global, checked: &Checked, state: &State) -> Result<Vec<u
     Ok(widths)
 }
 
+/// How wide the cell is of the location with this number.
+fn cell_width(
+    cell: &mut Vec<u8>,
+    checked: &Checked,
+    before: &State,
+    after: &State,
+    n: usize,
+) -> Result<usize, AllocError>
+    requires before { IsStateOf (shape_of (spec_of checked.now.spec)) before.now }
+    requires after { IsStateOf (shape_of (spec_of checked.now.spec)) after.now }
+    requires within { n < count_of (shape_of (spec_of checked.now.spec)) }
+    ensures { let s = spec_of checked.now.spec in let shape = shape_of s in
+        IfOk result (λ wide. wide ≡ length (cell_text s (state_of shape before.now) (state_of shape after.now) n)) }
+{
+    let (old, new) = (before.content(n), after.content(n));
+    if is_same_value(old, new) {
+        return Ok(SAME_WIDTH);
+    }
+    cell.clear();
+    push_shown(cell, checked, new)?;
+    Ok(cell.len())
+}
+
 /// Makes room for the cells of a step.
 fn widen_for_next(
     alloc: Global,
@@ -86,9 +112,7 @@ fn widen_for_next(
 {
     let mut cell = Vec::new(alloc);
     for n in 0..widths.len() {
-        cell.clear();
-        push_cell(&mut cell, checked, before, after, n)?;
-        widths[n] = widths[n].max(cell.len());
+        widths[n] = widths[n].max(cell_width(&mut cell, checked, before, after, n)?);
     }
     Ok(())
 }
