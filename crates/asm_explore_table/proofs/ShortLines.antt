@@ -30,9 +30,9 @@ blanks_length (suc n) = ap suc (blanks_length n)
 pub placed_short : (line : List ℕ) (start : ℕ) (text : List ℕ) → length line + 2 ≤ start → length (placed line start text) ≤ start + length text
 placed_short line start [] low = omega (arith, low)
 placed_short line start (b ∷ text) low =
-    let whole = length-append line (blanks (max (start - length line) 2) ++ b ∷ text) in
-    let part = length-append (blanks (max (start - length line) 2)) (b ∷ text) in
-    let many = blanks_length (max (start - length line) 2) in
+    let whole = length-append line (blanks (start - length line) ++ b ∷ text) in
+    let part = length-append (blanks (start - length line)) (b ∷ text) in
+    let many = blanks_length (start - length line) in
     omega (arith, low, whole, part, many)
 
 aligned_length : (width : ℕ) (text : List ℕ) → length text ≤ width → length (aligned width text) ≡ width
