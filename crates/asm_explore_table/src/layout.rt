@@ -52,8 +52,8 @@ struct Unplaced {
     width: usize,
 }
 
-/// The place so many bytes behind another one. It is refused if 64 bits can't hold it: no memory has
-/// room for such a line.
+/// The place so many bytes behind another one. It is refused if 64 bits can't hold it: no memory
+/// has room for such a line.
 fn behind(place: usize, bytes: usize) -> Result<usize, AllocError>
     ensures place { IfOk result (λ n. n ≡ place + bytes) }
     ensures refused { IfErr result (λ e. 2 ^ 64 ≤ place + bytes) }
