@@ -46,9 +46,9 @@ module _ (tree : Spec) (turns : ℕ) (script : Script) where
       IsChosenText (specification_of tree) turns script steps part
       ⊎ (AreTooLong (chosen_lines (specification_of tree) turns script steps) × (part ≡ comments (codes "left out: the script" ∷ [])))
 
-  pub record IsShowText (spec : List ℕ) (names : List (List ℕ)) (end : ShownEnd) (unmet : List (List ℕ)) (printed : List ℕ) : Type 0 where
+  pub record IsShowText (spec : List ℕ) (names : List (List ℕ)) (most : ℕ) (end : ShownEnd) (unmet : List (List ℕ)) (printed : List ℕ) : Type 0 where
     pub table : List (List ℕ)
-    pub is_table : IsTable tree names (specification_of tree).initial (rows_of tree turns script end.steps) table
+    pub is_table : IsTable tree names most (specification_of tree).initial (rows_of tree turns script end.steps) table
     pub part : List ℕ
     pub is_part : IsScriptPart end.steps part
     pub is :
@@ -70,7 +70,7 @@ module _ (text script_text : List ℕ) (conditions : List Condition) (settings :
     pub is_end : IsShownEnd text tree terms settings.run.turns script settings.run.steps end
     pub steps : List (List Choice)
     pub choices : AreChoices tree settings.run.turns script end.steps steps
-    pub printed : IsShowText tree settings.run.turns script settings.run.spec.now (names_shown settings) end (unmet_lines script_text (lines_forward steps)) report.text.items
+    pub printed : IsShowText tree settings.run.turns script settings.run.spec.now (names_shown settings) settings.width end (unmet_lines script_text (lines_forward steps)) report.text.items
     pub status : report.status ≡ run_status end.is_fault (unmet_lines script_text (lines_forward steps))
 
   pub record IsWithoutRefusal : Type 0 where

@@ -62,7 +62,7 @@ fn report_of_end(
 ) -> Result<Report, AllocError>
     ensures { let s = spec_of checked.now.spec in let turns = settings.now.run.turns in
         IfOk result (λ report. (made : List (List Choice)) × AreChoices s turns script.now end.now.steps made
-        × IsShowText s turns script.now settings.now.run.spec.now (names_shown settings.now) (end_said end.now) (unmet.unmet_lines script_text.now (lines_forward made)) report.text.items
+        × IsShowText s turns script.now settings.now.run.spec.now (names_shown settings.now) settings.now.width (end_said end.now) (unmet.unmet_lines script_text.now (lines_forward made)) report.text.items
         × (report.status ≡ run_status end.now.is_fault (unmet.unmet_lines script_text.now (lines_forward made)))) }
 {
     let turns = settings.run.turns;

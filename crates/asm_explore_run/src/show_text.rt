@@ -75,7 +75,7 @@ pub(crate) fn show_text(
     end: &ShownEnd,
     unmet: &[Vec<u8>],
 ) -> Result<Vec<u8>, AllocError>
-    ensures { IfOk result (λ text. IsShowText (spec_of checked.now.spec) settings.now.run.turns script.now settings.now.run.spec.now (names_shown settings.now) (end_said end.now) (lines_of unmet.now) text.items) }
+    ensures { IfOk result (λ text. IsShowText (spec_of checked.now.spec) settings.now.run.turns script.now settings.now.run.spec.now (names_shown settings.now) settings.now.width (end_said end.now) (lines_of unmet.now) text.items) }
 {
     comments_law();
     let (steps, turns) = (end.steps, settings.run.turns);

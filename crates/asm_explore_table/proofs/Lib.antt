@@ -1,8 +1,14 @@
+mod AllLists
 mod BlockLists
 mod ChangeLists
 mod ChosenPieces
+mod ClearTables
+mod DecimalLengths
+mod LaidBlocks
+mod LaidTables
 mod LedSteps
 mod MadeTables
 mod NotedRows
 mod RunRows
+mod ShortLines
 mod TableLines

@@ -25,10 +25,11 @@ use Rattle.asm_run.specs.Written.{names_in}
 use Rattle.asm_explore_texts.specs.Comments.{comment, comments}
 use Rattle.asm_explore_texts.specs.code.TextPlaces.{elements_said}
 use Rattle.asm_explore_table.specs.ChosenTexts.{elements_text, given_text, more_elements}
-use Rattle.asm_explore_table.specs.Lines.{blanks, comma}
+use Rattle.asm_explore_table.specs.Lines.{blanks}
 use Rattle.asm_explore_table.specs.Rows.{Row}
 use Rattle.asm_explore_table.specs.Tables.{first_row, joined_values, more_columns, row_lines, rows_from}
 use Rattle.asm_explore_table.specs.declared.block.Block.{Block}
+use Rattle.asm_explore_table.specs.code.Commas.{comma}
 
 pub blanks_more : (n : ℕ) → blanks n ++ 32 ∷ [] ≡ blanks (n + 1)
 blanks_more zero = refl

@@ -12,10 +12,13 @@
 --     is_known s name          some location has this name, or its function
 --     IsFirstUnknown names name    it is the first of the names that isn't known
 --     columns                  the numbers of all columns, in order
+--     IsClearBlock             each text in a column of a block ends two blanks before the next one
+--                              begins; the name of a function may stand above all of its columns
+--     FitsInto most            no line of a block is longer, unless the block has one column
 --     IsTable                  these lines are the table of a run: blocks of columns beside each
---                              other, with an empty line between each two. Which columns stand beside
---                              each other is free, and where they begin
-use Rattle.std.specs.Prelude.{All, true, false, ◌≡◌, ℕ, zero, suc, ◌-◌, Bool, cond, ◌&&◌, ◌||◌, is_some, nat_eq, List, [], ◌∷◌, ◌++◌, map, filter, length, take, Option, Some, None, codes, decimal}
+--                              other, with an empty line between each two. Within this, which columns
+--                              stand beside each other is free, and where they begin
+use Rattle.std.specs.Prelude.{All, true, false, ◌≡◌, ◌≤◌, ◌⊎◌, ⊤, ℕ, zero, suc, ◌+◌, ◌-◌, max, Bool, cond, ◌&&◌, ◌||◌, is_some, nat_eq, List, [], ◌∷◌, ◌++◌, map, filter, length, take, Option, Some, None, codes, decimal}
 use Rattle.std.specs.List.{flat_map, join_by, list_any, range_with_len}
 use Rattle.std.specs.Str.{bytes_eq}
 use Rattle.asm_state.specs.declared.value.Value.{Value}
@@ -50,6 +53,11 @@ module _ (s : Spec) where
 
   abbrev pub cell : State → State → ℕ → List ℕ
   cell A B n = changed_value s (A (numbered n)) (B (numbered n))
+
+  -- of a step in which the run ends there is none
+  abbrev pub cells_after : (n : ℕ) → State → Option State → List (List ℕ)
+  cells_after n A None = []
+  cells_after n A (Some B) = cell A B n ∷ []
 
 -- the texts of the locations, each where its column begins
 abbrev pub with_cells : (text : ℕ → List ℕ) → (line : List ℕ) → List Column → List ℕ
@@ -173,6 +181,47 @@ abbrev pub more_columns : ℕ → List (List ℕ)
 more_columns zero = []
 more_columns (suc n) = (codes "and " ++ (decimal (suc n) ++ codes " more locations change")) ∷ []
 
+-- ---- where columns begin
+
+-- a text that begins here ends two blanks before the column
+abbrev pub IsBefore : (start : ℕ) → Column → (text : List ℕ) → Type 0
+IsBefore start c text = start + (length text + 2) ≤ c.start
+
+module _ (s : Spec) (first : State) (rows : List Row) where
+  -- what stands in the column of a location, below the name of its function
+  abbrev pub texts_in : (n : ℕ) → List (List ℕ)
+  texts_in n = arguments_head s n ∷ (shown_value s (first (numbered s n)) ∷ flat_map (λ row. cells_after s n row.before row.after) rows)
+
+  -- the texts in the first of two columns end before the second, and the name of its function does
+  -- unless they have the same
+  abbrev pub IsClear : (before : Option ℕ) → (c d : Column) → Type 0
+  IsClear before c d =
+      let f = function_of (numbered s c.location) in
+      All (IsBefore c.start d) (texts_in c.location) × ((function_of (numbered s d.location) ≡ f) ⊎ IsBefore c.start d (function_head s before f))
+
+  abbrev pub AreClear : (before : Option ℕ) → List Column → Type 0
+  AreClear before [] = ⊤
+  AreClear before (c ∷ columns) = All (IsClear before c) columns × AreClear (Some (function_of (numbered s c.location))) columns
+
+  -- what stands in the column of what is chosen
+  abbrev pub chosen_texts : List (List ℕ)
+  chosen_texts = codes "chosen" ∷ flat_map (λ row. chosen_lines s row.asked) rows
+
+  -- the steps end before the column of what is chosen, and this one before the others
+  abbrev pub IsChosenClear : (width : ℕ) → Option ℕ → List Column → Type 0
+  IsChosenClear width None columns = All (λ c. width + 2 ≤ c.start) columns
+  IsChosenClear width (Some start) columns = (width + 2 ≤ start) × All (λ c. All (IsBefore start c) chosen_texts) columns
+
+  abbrev pub IsClearBlock : (width : ℕ) → Block → Type 0
+  IsClearBlock width block = IsChosenClear width block.chosen block.columns.items × AreClear None block.columns.items
+
+  -- a line of the table stands behind two bytes
+  abbrev pub FitsInto : (most width : ℕ) → Block → Type 0
+  FitsInto most width block = (length block.columns.items ≤ 1) ⊎ All (λ line. 2 + length line ≤ most) (block_lines s width block first rows)
+
+abbrev pub HasColumn : Block → Type 0
+HasColumn block = 1 ≤ length block.columns.items
+
 -- ---- the table
 
 module _ (s : Spec) (width : ℕ) (first : State) (rows : List Row) where
@@ -183,13 +232,20 @@ module _ (s : Spec) (width : ℕ) (first : State) (rows : List Row) where
   abbrev pub blocks_lines : Block → List Block → List (List ℕ)
   blocks_lines head others = block_lines s width head first rows ++ behind_lines others
 
-pub record IsTable (s : Spec) (names : List (List ℕ)) (first : State) (rows : List Row) (lines : List (List ℕ)) : Type 0 where
+pub record IsTable (s : Spec) (names : List (List ℕ)) (most : ℕ) (first : State) (rows : List Row) (lines : List (List ℕ)) : Type 0 where
   pub width : ℕ
   pub head : Block
   pub others : List Block
   pub of_all : let all = columns s names rows in flat_map numbers_in (head ∷ others) ≡ shown_columns names all
   pub chosen : is_some head.chosen ≡ chooses rows
   pub unchosen : list_any (λ block. is_some block.chosen) others ≡ false
+  -- the first block is without columns only if it is alone
+  pub filled : All HasColumn others
+  pub begins : (others ≡ []) ⊎ HasColumn head
+  -- the numbers of the steps are as wide as the last of them, or as the word above
+  pub steps : width ≡ max 4 (length (decimal (length rows)))
+  pub clear : All (IsClearBlock s first rows width) (head ∷ others)
+  pub fits : All (FitsInto s first rows most width) (head ∷ others)
   pub is :
       let all = columns s names rows in
       lines ≡ blocks_lines s width first rows head others ++ more_columns (length all - length (shown_columns names all))

@@ -1,13 +1,18 @@
 //! What a table of a run has to have room for: found by making the run once.
-ghost use Rattle.std.specs.Prelude.{◌≡◌, ◌<◌, ◌≤◌, ◌+◌, ◌||◌, ℕ, false, length, map, slice_index_or, IfOk, IfSome, OnOk};
-ghost use Rattle.asm_state.specs.Signature.{count_of, location_at};
+ghost use Rattle.std.specs.Prelude.{◌≡◌, ◌<◌, ◌≤◌, ◌+◌, ◌^◌, ◌||◌, [], ℕ, false, length, map, max, not, slice_index_or, IfOk, IfSome, OnOk};
+ghost use Rattle.asm_state.specs.Operation.{is_same};
+ghost use Rattle.asm_state.specs.Signature.{count_of, location_at, state_of};
 ghost use Rattle.asm_state.specs.code.Contents.{IsStateOf};
 ghost use Rattle.asm_syntax.specs.code.Views.{spec_of};
 ghost use Rattle.asm_check.specs.Shapes.{shape_of};
+ghost use Rattle.asm_meaning.specs.Declarations.{specification_of};
 ghost use Rattle.asm_step.specs.code.Steps.{HasMainRule, shape_in};
 ghost use Rattle.asm_explore.specs.RunChoices.{asked_said};
-ghost use Rattle.asm_explore_table.specs.Rows.{asks, differs, rows_of};
-ghost use Rattle.asm_explore_table.specs.code.Extents.{HasRoom, IsExtentOf};
+ghost use Rattle.asm_explore_texts.specs.Comments.{lines_of};
+ghost use Rattle.asm_explore_table.specs.ChosenTexts.{chosen_lines as lines_of_choices};
+ghost use Rattle.asm_explore_table.specs.Rows.{asks, rows_of};
+ghost use Rattle.asm_explore_table.specs.Tables.{cell as cell_text, numbered, shown_value};
+ghost use Rattle.asm_explore_table.specs.code.Extents.{AreShort, HasRoom, IsExtentOf, IsWidened, width_in};
 ghost use Rattle.asm_explore_table.specs.code.StepsMade.{row_said};
 
 use crate::cells::{is_same_value, push_shown};
@@ -19,6 +24,9 @@ use asm_reader::Picks;
 use asm_state::state::State;
 use asm_step::ResolvedSpecification;
 use std::alloc::{AllocError, Global};
+
+/// How wide a cell is whose value is as before.
+const SAME_WIDTH: usize = 1;
 
 /// What the rows of a run have.
 #[derive(Drop)]
@@ -36,34 +44,58 @@ pub(crate) struct Extent {
 }
 
 /// The greatest length of some lines, and this one.
-fn longest(most: usize, lines: &[Vec<u8>]) -> usize {
-    let mut most = most;
-    for line in lines {
-        most = most.max(line.len());
+fn longest(most: usize, lines: &[Vec<u8>]) -> usize
+    ensures most { most ≤ result }
+    ensures lines { AreShort result (lines_of lines.now) }
+{
+    let mut longest = most;
+    for k in 0..lines.len() {
+        longest = longest.max(lines[k].len());
     }
-    most
+    longest
 }
 
-/// Makes room for the values in the cells of the first row.
-fn widen_for_first(
-    alloc: Global,
-    checked: &Checked,
-    widths: &mut Vec<usize>,
-    state: &State,
-) -> Result<(), AllocError>
-    requires { length state.now ≡ count_of (shape_of (spec_of checked.now.spec)) }
-    ensures { OnOk result (length widths.new.items ≡ length widths.old.items + count_of (shape_of (spec_of checked.now.spec))) }
+/// How wide the cells of the first row are.
+fn first_widths(alloc: Global, checked: &Checked, state: &State) -> Result<Vec<usize>, AllocError>
+    requires { IsStateOf (shape_of (spec_of checked.now.spec)) state.now }
+    ensures whole { IfOk result (λ widths. length widths.items ≡ count_of (shape_of (spec_of checked.now.spec))) }
+    ensures wide { let s = spec_of checked.now.spec in IfOk result (λ widths. (n : ℕ) → n < count_of (shape_of s) →
+        slice_index_or widths.items n 0 ≡ length (shown_value s (state_of (shape_of s) state.now (numbered s n)))) }
 {
+    let mut widths = Vec::new(alloc);
     let mut cell = Vec::new(alloc);
     for n in 0..checked.signature().count() {
         cell.clear();
         push_shown(&mut cell, checked, state.content(n))?;
         widths.push(cell.len())?;
     }
-    Ok(())
+    Ok(widths)
 }
 
-/// Makes room for the values that differ from those before.
+/// How wide the cell is of the location with this number.
+fn cell_width(
+    cell: &mut Vec<u8>,
+    checked: &Checked,
+    before: &State,
+    after: &State,
+    n: usize,
+) -> Result<usize, AllocError>
+    requires before { IsStateOf (shape_of (spec_of checked.now.spec)) before.now }
+    requires after { IsStateOf (shape_of (spec_of checked.now.spec)) after.now }
+    requires within { n < count_of (shape_of (spec_of checked.now.spec)) }
+    ensures { let s = spec_of checked.now.spec in let shape = shape_of s in
+        IfOk result (λ wide. wide ≡ length (cell_text s (state_of shape before.now) (state_of shape after.now) n)) }
+{
+    let (old, new) = (before.content(n), after.content(n));
+    if is_same_value(old, new) {
+        return Ok(SAME_WIDTH);
+    }
+    cell.clear();
+    push_shown(cell, checked, new)?;
+    Ok(cell.len())
+}
+
+/// Makes room for the cells of a step.
 fn widen_for_next(
     alloc: Global,
     checked: &Checked,
@@ -71,18 +103,16 @@ fn widen_for_next(
     before: &State,
     after: &State,
 ) -> Result<(), AllocError>
-    requires before { length widths.old ≤ length before.now }
-    requires after { length widths.old ≤ length after.now }
-    ensures { length widths.new ≡ length widths.old }
+    requires whole { length widths.old ≡ count_of (shape_of (spec_of checked.now.spec)) }
+    requires before { IsStateOf (shape_of (spec_of checked.now.spec)) before.now }
+    requires after { IsStateOf (shape_of (spec_of checked.now.spec)) after.now }
+    ensures whole { length widths.new ≡ length widths.old }
+    ensures wide { let s = spec_of checked.now.spec in OnOk result ((n : ℕ) → n < length widths.old →
+        slice_index_or widths.new n 0 ≡ max (slice_index_or widths.old n 0) (length (cell_text s (state_of (shape_of s) before.now) (state_of (shape_of s) after.now) n))) }
 {
     let mut cell = Vec::new(alloc);
     for n in 0..widths.len() {
-        let value = after.content(n);
-        if !is_same_value(before.content(n), value) {
-            cell.clear();
-            push_shown(&mut cell, checked, value)?;
-            widths[n] = widths[n].max(cell.len());
-        }
+        widths[n] = widths[n].max(cell_width(&mut cell, checked, before, after, n)?);
     }
     Ok(())
 }
@@ -102,14 +132,12 @@ fn nothing_changed(alloc: Global, count: usize) -> Result<Vec<bool>, AllocError>
 impl Extent {
     /// That of the first row alone.
     fn of_first(alloc: Global, checked: &Checked, state: &State) -> Result<Extent, AllocError>
-        requires { length state.now ≡ count_of (shape_of (spec_of checked.now.spec)) }
+        requires { IsStateOf (shape_of (spec_of checked.now.spec)) state.now }
         ensures whole { IfOk result (HasRoom (count_of (shape_of (spec_of checked.now.spec)))) }
-        ensures none { IfOk result (λ e. (n : ℕ) → slice_index_or e.changed.items n false ≡ false) }
-        ensures unasked { IfOk result (λ e. e.chooses ≡ false) }
+        ensures found { let s = spec_of checked.now.spec in IfOk result (λ e. IsExtentOf s (state_of (shape_of s) state.now) e []) }
     {
         let changed = nothing_changed(alloc, checked.signature().count())?;
-        let mut widths = Vec::new(alloc);
-        widen_for_first(alloc, checked, &mut widths, state)?;
+        let widths = first_widths(alloc, checked, state)?;
         Ok(Extent {
             changed,
             widths,
@@ -128,7 +156,10 @@ impl Extent {
     ) -> Result<(), AllocError>
         ensures changed { self.new.changed ≡ self.old.changed }
         ensures widths { self.new.widths ≡ self.old.widths }
+        ensures steps { self.new.steps ≡ self.old.steps }
         ensures chooses { OnOk result (self.new.chooses ≡ (self.old.chooses || asks (map asked_said row.now.asked.items))) }
+        ensures wider { OnOk result (self.old.chosen_width ≤ self.new.chosen_width) }
+        ensures wide { OnOk result (AreShort self.new.chosen_width (lines_of_choices (spec_of checked.now.spec) (map asked_said row.now.asked.items))) }
     {
         if row.asked.is_empty() {
             return Ok(());
@@ -137,6 +168,32 @@ impl Extent {
         self.chooses = true;
         self.chosen_width = longest(self.chosen_width, lines.as_slice());
         Ok(())
+    }
+
+    /// Makes room for the cells of a step.
+    fn add_cells(
+        &mut self,
+        alloc: Global,
+        checked: &Checked,
+        before: &State,
+        after: &State,
+    ) -> Result<(), AllocError>
+        requires whole { HasRoom (count_of (shape_of (spec_of checked.now.spec))) self.old }
+        requires before { IsStateOf (shape_of (spec_of checked.now.spec)) before.now }
+        requires after { IsStateOf (shape_of (spec_of checked.now.spec)) after.now }
+        ensures whole { OnOk result (HasRoom (count_of (shape_of (spec_of checked.now.spec))) self.new) }
+        ensures changed { let shape = shape_of (spec_of checked.now.spec) in
+            OnOk result ((n : ℕ) → n < count_of shape → slice_index_or self.new.changed.items n false
+            ≡ (slice_index_or self.old.changed.items n false || not (is_same (state_of shape before.now (location_at shape n)) (state_of shape after.now (location_at shape n))))) }
+        ensures wide { let s = spec_of checked.now.spec in
+            OnOk result ((n : ℕ) → n < count_of (shape_of s) → width_in self.new n
+            ≡ max (width_in self.old n) (length (cell_text s (state_of (shape_of s) before.now) (state_of (shape_of s) after.now) n))) }
+        ensures chooses { self.new.chooses ≡ self.old.chooses }
+        ensures chosen { self.new.chosen_width ≡ self.old.chosen_width }
+        ensures steps { self.new.steps ≡ self.old.steps }
+    {
+        note_changes(self.changed.as_mut_slice(), before, after);
+        widen_for_next(alloc, checked, self.widths.as_mut_slice(), before, after)
     }
 
     /// Makes room for the row of a step.
@@ -148,21 +205,19 @@ impl Extent {
         row: &StepRow,
     ) -> Result<(), AllocError>
         requires whole { HasRoom (count_of (shape_of (spec_of checked.now.spec))) self.old }
+        requires steps { self.old.steps < 2 ^ 32 }
         requires before { IsStateOf (shape_of (spec_of checked.now.spec)) before.now }
         requires after { IfSome row.now.next (IsStateOf (shape_of (spec_of checked.now.spec))) }
         ensures whole { OnOk result (HasRoom (count_of (shape_of (spec_of checked.now.spec))) self.new) }
-        ensures changed { let shape = shape_of (spec_of checked.now.spec) in
-            OnOk result ((n : ℕ) → n < count_of shape → slice_index_or self.new.changed.items n false
-            ≡ (slice_index_or self.old.changed.items n false || differs (location_at shape n) (row_said shape before.now row.now))) }
-        ensures chooses { OnOk result (self.new.chooses ≡ (self.old.chooses || asks (map asked_said row.now.asked.items))) }
+        ensures added { let s = spec_of checked.now.spec in
+            OnOk result (IsWidened s self.old (row_said (shape_of s) before.now row.now) self.new) }
     {
-        self.steps = self.steps.saturating_add(1);
+        self.steps += 1;
         self.add_chosen(alloc, checked, row)?;
-        if let Some(after) = &row.next {
-            note_changes(self.changed.as_mut_slice(), before, after);
-            widen_for_next(alloc, checked, self.widths.as_mut_slice(), before, after)?;
+        match &row.next {
+            Some(after) => self.add_cells(alloc, checked, before, after),
+            None => Ok(()),
         }
-        Ok(())
     }
 }
 
@@ -175,8 +230,8 @@ pub(crate) fn run_extent<P: Picks>(
 ) -> Result<Extent, AllocError>
     requires { HasMainRule resolved.now }
     ensures whole { IfOk result (HasRoom (count_of (shape_in resolved.now))) }
-    ensures found { let m = resolved.now in
-        IfOk result (λ e. IsExtentOf (shape_in m) e (rows_of (spec_of m.checked.now.spec) m.turns (P.script script.now) steps)) }
+    ensures found { let m = resolved.now in let s = spec_of m.checked.now.spec in
+        IfOk result (λ e. IsExtentOf s (specification_of s).initial e (rows_of s m.turns (P.script script.now) steps)) }
 {
     let checked = resolved.checked;
     let mut state = State::initial(alloc, checked.signature())?;

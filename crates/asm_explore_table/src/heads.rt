@@ -83,7 +83,7 @@ pub(crate) fn function_head(
 }
 
 /// Whether the column before is of the same function.
-fn is_after(function: usize, before: Option<usize>) -> bool
+pub(crate) fn is_after(function: usize, before: Option<usize>) -> bool
     ensures { result ≡ follows function before }
 {
     match before {

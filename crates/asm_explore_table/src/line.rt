@@ -1,6 +1,7 @@
 //! Lines of a table: texts at the columns where they begin.
 ghost use Rattle.std.specs.Prelude.{◌≡◌, ◌++◌, OnOk};
-ghost use Rattle.asm_explore_table.specs.Lines.{aligned, blanks, comma, placed};
+ghost use Rattle.asm_explore_table.specs.Lines.{aligned, blanks, placed};
+ghost use Rattle.asm_explore_table.specs.code.Commas.{comma};
 
 use std::alloc::AllocError;
 
@@ -14,16 +15,15 @@ pub(crate) fn push_blanks(line: &mut Vec<u8>, count: usize) -> Result<(), AllocE
     Ok(())
 }
 
-/// Adds a text to a line so that it begins at this column, at least two blanks behind what is there.
-/// Without a text the line stays as it is.
+/// Adds a text to a line so that it begins at this column, behind what is there. Without a text the
+/// line stays as it is.
 pub(crate) fn place(line: &mut Vec<u8>, start: usize, text: &[u8]) -> Result<(), AllocError>
     ensures { OnOk result (line.new.items ≡ placed line.old.items start text.now) }
 {
     if text.is_empty() {
         return Ok(());
     }
-    let blanks = start.saturating_sub(line.len()).max(2);
-    push_blanks(line, blanks)?;
+    push_blanks(line, start.saturating_sub(line.len()))?;
     line.extend_from_slice(text)
 }
 

@@ -175,10 +175,11 @@ fn add_table_of<P: Picks>(
 ) -> Result<(), AllocError>
     requires main { HasMainRule run.now.resolved }
     requires room { HasRoom (count_of (shape_in run.now.resolved)) extent.now }
-    requires found { let m = run.now.resolved in IsExtentOf (shape_in m) extent.now (rows_of (spec_of m.checked.now.spec) m.turns (P.script run.now.script.now) run.now.steps) }
+    requires found { let m = run.now.resolved in let s = spec_of m.checked.now.spec in
+        IsExtentOf s (specification_of s).initial extent.now (rows_of s m.turns (P.script run.now.script.now) run.now.steps) }
     ensures { let m = run.now.resolved in let s = spec_of m.checked.now.spec in
         OnOk result ((lines : List (List ℕ)) × (out.new.items ≡ out.old.items ++ comments lines)
-        × IsTable s (names_said settings.entry.names.now) (specification_of s).initial (rows_of s m.turns (P.script run.now.script.now) run.now.steps) lines) }
+        × IsTable s (names_said settings.entry.names.now) settings.entry.width (specification_of s).initial (rows_of s m.turns (P.script run.now.script.now) run.now.steps) lines) }
 {
     let checked = run.resolved.checked;
     let all = columns(alloc, checked, settings.names, extent)?;
@@ -199,7 +200,7 @@ fn add_found<P: Picks>(
     requires { HasMainRule run.now.resolved }
     ensures { let m = run.now.resolved in let s = spec_of m.checked.now.spec in
         OnOk result ((lines : List (List ℕ)) × (out.new.items ≡ out.old.items ++ comments lines)
-        × IsTable s (names_said settings.entry.names.now) (specification_of s).initial (rows_of s m.turns (P.script run.now.script.now) run.now.steps) lines) }
+        × IsTable s (names_said settings.entry.names.now) settings.entry.width (specification_of s).initial (rows_of s m.turns (P.script run.now.script.now) run.now.steps) lines) }
 {
     let extent = run_extent(alloc, &run.resolved, run.script, run.steps)?;
     add_table_of(alloc, out, run, settings, &extent)
@@ -218,7 +219,7 @@ pub fn add_table<'x, P: Picks>(
 ) -> Result<(), AllocError>
     ensures { let s = spec_of checked.now.spec in
         OnOk result ((lines : List (List ℕ)) × (out.new.items ≡ out.old.items ++ comments lines)
-        × IsTable s (names_said settings.entry.names.now) (specification_of s).initial (rows_of s turns (P.script script.now) steps) lines) }
+        × IsTable s (names_said settings.entry.names.now) settings.entry.width (specification_of s).initial (rows_of s turns (P.script script.now) steps) lines) }
 {
     let code = resolve_main(alloc, checked)?;
     let run = TableRun {

@@ -30,7 +30,7 @@ returns c =
     script.2 in
     record {
       table = table.0;
-      is_table = subst (λ (ns : List (Bor (List ℕ))). IsTable s (map (λ n. n.now) ns) (specification_of s).initial (rows_of s settings.run.turns c.args.script.now end.steps) table.0)
+      is_table = subst (λ (ns : List (Bor (List ℕ))). IsTable s (map (λ n. n.now) ns) settings.width (specification_of s).initial (rows_of s settings.run.turns c.args.script.now end.steps) table.0)
           c.as_slice-4.ensures.value table.2;
       part = script.0;
       is_part = script.1;

@@ -3,7 +3,7 @@ use Rattle.asm_syntax.specs.code.Views.{spec_of}
 use Rattle.asm_syntax.specs.declared.name.Name.{Name}
 use Rattle.asm_explore_texts.specs.code.TextPlaces.{elements_said}
 use Rattle.asm_explore_table.specs.ChosenTexts.{given_text}
-use Rattle.asm_explore_table.specs.Lines.{comma}
+use Rattle.asm_explore_table.specs.code.Commas.{comma}
 use Rattle.asm_explore_table.proofs.TableLines.{rest_next, rest_none, rest_of}
 use Rattle.asm_explore_table.proofs.chosen_lines.elements_text.Goals as goal
 

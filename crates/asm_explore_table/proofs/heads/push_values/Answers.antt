@@ -2,7 +2,7 @@ use Rattle.std.proofs.Common.{◌∙◌, ◌++◌, ap, sym, take, append_assoc}
 use Rattle.asm_syntax.specs.code.Views.{spec_of}
 use Rattle.asm_run.specs.Trace.{value_text}
 use Rattle.asm_run.specs.Written.{names_in}
-use Rattle.asm_explore_table.specs.Lines.{comma}
+use Rattle.asm_explore_table.specs.code.Commas.{comma}
 use Rattle.asm_explore_table.specs.Tables.{joined_values}
 use Rattle.asm_explore_table.proofs.TableLines.{joined_more}
 use Rattle.asm_explore_table.proofs.heads.push_values.Goals as goal

@@ -1,4 +1,4 @@
-use Rattle.std.proofs.Common.{◌≡◌, ◌∙◌, ◌+◌, ◌∷◌, ◌++◌, [], Bor, List, ℕ, ap, drop, get_or, map, subst, sym, take, true}
+use Rattle.std.proofs.Common.{◌≡◌, ◌∙◌, ◌+◌, ◌++◌, [], Bor, List, ℕ, ap, drop, subst, sym, take, true}
 use Rattle.std.specs.Prelude.{All}
 use Rattle.std.proofs.lemmas.List.{drop_more, map-append, take-append-drop, take_all}
 use Rattle.asm_syntax.specs.code.Views.{spec_of}

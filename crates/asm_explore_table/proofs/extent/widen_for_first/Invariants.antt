@@ -1,5 +1,0 @@
-use Rattle.std.proofs.Common.{◌≡◌, ◌+◌, length}
-use Rattle.asm_explore_table.proofs.extent.widen_for_first.Given as goal
-
-abbrev pub invariant-loop-n : goal.invariant-loop-n
-invariant-loop-n l = length l.widths.items ≡ length l.fn.widths.items + l.n
