@@ -65,11 +65,7 @@ fn no_script<'w>(alloc: Global, fault: Fault<'w>) -> Result<Vec<u8>, Undrawn>
 }
 
 /// The bytes of the text that is drawn.
-fn bytes_of(
-    alloc: Global,
-    checked: &Checked,
-    question: &DrawQuestion,
-) -> Result<Vec<u8>, Undrawn>
+fn bytes_of(alloc: Global, checked: &Checked, question: &DrawQuestion) -> Result<Vec<u8>, Undrawn>
     ensures drawn { let q = question.now in
         IfOk result (λ script. IsDrawnText (specification_of (spec_of checked.now.spec)) q.turns (term_holds checked.now q.always) q.seed q.steps script.items) }
     ensures undrawn { let q = question.now in

@@ -1,4 +1,6 @@
 -- Definition. What is printed of a run that is found, with its table and its trace.
+--     table_width        a line of the table has at most so many bytes, as one of `show` without
+--                        `--width`, unless one column alone is wider
 --     HasTable           the lines are the table of the run under a script, without names that are
 --                        to be shown, and behind it the assignments by which it ends, if it ends by
 --                        a fault
@@ -18,12 +20,15 @@ use Rattle.asm_explore_report.specs.ShownRuns.{Shown, script_of}
 use Rattle.asm_explore_report.specs.TraceLines.{AreTraceLines}
 use Rattle.asm_explore_run.specs.ShownRun.{AreShownAssignments}
 
+abbrev pub table_width : ℕ
+table_width = 100
+
 module _ (text : List ℕ) (tree : Spec) (turns : ℕ) where
   pub record HasTable (shown : Shown) (lines : List (List ℕ)) : Type 0 where
     pub script : Script
     pub spelled : IsScript shown.0 script
     pub table : List (List ℕ)
-    pub is_table : IsTable tree [] (specification_of tree).initial (rows_of tree turns script shown.1) table
+    pub is_table : IsTable tree [] table_width (specification_of tree).initial (rows_of tree turns script shown.1) table
     pub assignments : List (List ℕ)
     pub are_assignments : AreShownAssignments text tree turns script (run (specification_of tree) turns script shown.1) assignments
     pub are : lines ≡ table ++ assignments

@@ -9,7 +9,7 @@ ghost use Rattle.asm_explore_texts.specs.Comments.{comments, lines_of};
 ghost use Rattle.asm_explore_report.specs.ShownRuns.{shown as shown_run, shown_of};
 ghost use Rattle.asm_explore_table.specs.Rows.{rows_of};
 ghost use Rattle.asm_explore_table.specs.Tables.{IsTable};
-ghost use Rattle.asm_explore_run.specs.PrintedRun.{AreTableLines, HasTable, IsPrintedRun};
+ghost use Rattle.asm_explore_run.specs.PrintedRun.{AreTableLines, HasTable, IsPrintedRun, table_width};
 ghost use Rattle.asm_explore_run.specs.ShownRun.{AreShownAssignments};
 
 use crate::run_end::ended;
@@ -104,7 +104,7 @@ fn add_run_table(
 ) -> Result<(), AllocError>
     ensures { let s = spec_of checked.now.spec in
         OnOk result ((lines : List (List ℕ)) × (out.new.items ≡ out.old.items ++ comments lines)
-        × IsTable s [] (specification_of s).initial (rows_of s turns script.now steps) lines) }
+        × IsTable s [] table_width (specification_of s).initial (rows_of s turns script.now steps) lines) }
 {
     let settings = TableSettings {
         names: &[],

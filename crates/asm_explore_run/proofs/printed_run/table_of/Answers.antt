@@ -6,6 +6,7 @@ use Rattle.asm_meaning.specs.Run.{run}
 use Rattle.asm_explore_texts.specs.Comments.{comment, comments, lines_of}
 use Rattle.asm_explore_table.specs.Rows.{rows_of}
 use Rattle.asm_explore_table.specs.Tables.{IsTable}
+use Rattle.asm_explore_run.specs.PrintedRun.{table_width}
 use Rattle.asm_explore_run.specs.ShownRun.{AreShownAssignments}
 use Rattle.asm_explore_run.proofs.printed_run.table_of.Goals as goal
 
@@ -26,7 +27,7 @@ returns g c =
         script = script;
         spelled = c.in_ok-script.ensures;
         table = added.0;
-        is_table = subst (λ (n : ℕ). IsTable s [] (specification_of s).initial (rows_of s turns script n) added.0) same added.2;
+        is_table = subst (λ (n : ℕ). IsTable s [] table_width (specification_of s).initial (rows_of s turns script n) added.0) same added.2;
         assignments = below;
         are_assignments = subst (λ (n : ℕ). AreShownAssignments c.args.found.text.now s turns script (run (specification_of s) turns script n) below) same c.in_ok-assignments.ensures;
         are = refl;
