@@ -1,2 +1,3 @@
 mod WithoutReport
 mod PlainRuns
+mod UndrawnScripts

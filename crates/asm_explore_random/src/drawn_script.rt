@@ -53,7 +53,7 @@ fn turns_of(settings: &RunSettings<'_>) -> u32
 
 /// A script without a line, if a text is refused.
 fn no_script<'w>(alloc: Global, fault: Fault<'w>) -> Result<Vec<u8>, Undrawn>
-    ensures refused { (Refused : RefusedText → Type 0) → ExplainsText Refused fault →
+    ensures refused { (Refused : RefusedText → Type 0) → ExplainsText Refused fault.entry →
         IfOk result (λ script. (script.items ≡ []) × ((refused : RefusedText) × Refused refused)) }
     ensures memory { IfErr result (λ why. why ≡ Memory) }
 {
