@@ -116,14 +116,7 @@ fn printed_of<R: Threads + Sync>(
         table: settings.table,
         trace: settings.trace,
     };
-    let whole = printed_run(
-        rt,
-        alloc,
-        found,
-        parts,
-        first.as_slice(),
-        lines.as_slice(),
-    )?;
+    let whole = printed_run(rt, alloc, found, parts, first.as_slice(), lines.as_slice())?;
     Ok(whole)
 }
 
