@@ -45,7 +45,7 @@ returns-in_err-drawing-clause-explained g c =
     let known = subst (λ (ns : List (Bor (List ℕ))). All (λ name. is_known (plain c.args.asked.now).spec name ≡ true) (names_said ns)) c.as_slice-names.ensures.value c.in_ok-know_names.ensures.known in
     let p = err_from_is_err_and c.from_residual-in_err-drawing.result c.from_residual-in_err-drawing.ensures.1 in
     rw (p.1, p.2) (of_graph c.args.text.now c.args.conditions.now c.args.settings.now c.in_ok-answered.answered explored known _ _ c.in_err-drawing.field-0.0
-    (subst (λ (ns : List (Bor (List ℕ))). ExplainsDrawing (plain c.args.asked.now) (names_said ns) (drawn_in c.in_ok-answered.answered.finding) (option_map (λ name. name.now) c.args.settings.now.dot) _ _ c.in_err-drawing.field-0.0) c.as_slice-names.ensures.value c.in_err-drawing.ensures.explained))
+    (subst (λ (ns : List (Bor (List ℕ))). ExplainsDrawing (plain c.args.asked.now) (names_said ns) (drawn_in c.in_ok-answered.answered.finding) (option_map (λ name. name.now) c.args.settings.now.dot) (g.F.NewFiles.made c.args.files.now) (g.F.NewFiles.made c.draw.new.files) c.in_err-drawing.field-0.0) c.as_slice-names.ensures.value c.in_err-drawing.ensures.explained))
 
 pub returns-in_err-write_script-clause-explained : goal.returns-in_err-write_script-clause-explained
 returns-in_err-write_script-clause-explained g c =
