@@ -1,14 +1,13 @@
 //! The script of a run that is drawn, from the texts.
-ghost use Rattle.std.specs.Prelude.{◌≡◌, ℕ, List, [], IfErr, IfOk};
+ghost use Rattle.std.specs.Prelude.{◌≡◌, ◌≢◌, ℕ, List, [], IfErr, IfOk};
 ghost use Rattle.asm_syntax.specs.code.Views.{spec_of, test_of};
 ghost use Rattle.asm_meaning.specs.Declarations.{specification_of};
 ghost use Rattle.asm_explore.specs.code.ResolvedConditions.{term_holds};
 ghost use Rattle.asm_random.specs.DrawnTexts.{IsDrawnText};
 ghost use Rattle.asm_run.specs.Headline.{IsAccepted};
-ghost use Rattle.asm_explore_texts.specs.RefusedTexts.{ExplainsText};
 ghost use Rattle.asm_explore_random.specs.DrawnScripts.{ExplainsUndrawn, IsScriptDrawn, IsUnwrittenDraw};
 ghost use Rattle.asm_explore_random.specs.declared.drawn_script.Undrawn.TheVariants.{Memory, Unwritten};
-ghost use Rattle.asm_explore_words.specs.declared.fault.RefusedText.{RefusedText};
+ghost use Rattle.asm_explore_words.specs.declared.fault.Fault.TheVariants as cause;
 
 use asm_check::Checked;
 use asm_explore_report::checked_text::{all_asked, checked};
@@ -51,10 +50,9 @@ fn turns_of(settings: &RunSettings<'_>) -> u32
     settings.turns
 }
 
-/// A script without a line, if a text is refused.
+/// A script without a line, unless memory ran out: a text is refused.
 fn no_script<'w>(alloc: Global, fault: Fault<'w>) -> Result<Vec<u8>, Undrawn>
-    ensures refused { (Refused : RefusedText → Type 0) → ExplainsText Refused fault.entry →
-        IfOk result (λ script. (script.items ≡ []) × ((refused : RefusedText) × Refused refused)) }
+    ensures empty { IfOk result (λ script. (script.items ≡ []) × (fault.entry ≢ cause.Memory)) }
     ensures memory { IfErr result (λ why. why ≡ Memory) }
 {
     match fault {

@@ -10,7 +10,7 @@ use Rattle.asm_explore_texts.specs.RefusedTexts.{IsOneRefused}
 use Rattle.asm_explore_texts.specs.code.CodedConditions.{terms_in}
 use Rattle.asm_explore_random.specs.DrawnScripts.{IsUnwrittenDraw}
 use Rattle.asm_explore_random.specs.declared.drawn_script.Undrawn.TheVariants.{Unwritten}
-use Rattle.asm_explore_random.proofs.UndrawnScripts.{explains, memory_explains}
+use Rattle.asm_explore_random.proofs.UndrawnScripts.{explains, memory_explains, refused_text}
 use Rattle.asm_explore_random.proofs.drawn_script.script_of.Goals as goal
 
 pub returns-in-Ok-clause-drawn : goal.returns-in-Ok-clause-drawn
@@ -46,7 +46,11 @@ returns-in-Ok-clause-undrawn c = λ text accepted.
 pub returns-in-Err-clause-drawn : goal.returns-in-Err-clause-drawn
 returns-in-Err-clause-drawn c = λ text accepted.
     let tree = spec_of c.args.checked.now.spec in
-    IfOk-weaker c.no_script.result _ _ (λ script is. inr (is.0, (is.1.0, inr (tree, accepted, is.1.1)))) (c.no_script.ensures.refused (IsOneRefused tree c.args.conditions.now) c.in-Err.ensures.refused)
+    IfOk-weaker c.no_script.result _ _
+    (λ script is.
+    let refused = refused_text (IsOneRefused tree c.args.conditions.now) c.in-Err.fault c.in-Err.ensures.refused is.1 in
+    inr (is.0, (refused.0, inr (tree, accepted, refused.1))))
+    c.no_script.ensures.empty
 
 pub returns-in-Err-clause-undrawn : goal.returns-in-Err-clause-undrawn
 returns-in-Err-clause-undrawn c = λ text accepted.
