@@ -70,15 +70,15 @@ module _ (contents : Text → Option (List ℕ)) (input : Option (List ℕ)) (be
   of_task (task.All settings) fault (inr is) = of_cause is.text is.cause fault is.is
   of_task (task.Random settings) fault (none, inl unread) = of_unread _ fault unread
   of_task (task.Random settings) fault (none, inr is) = of_cause is.text is.cause fault is.is
-  of_task (task.Choices settings) fault (none, inl unread) = of_unread _ fault unread
-  of_task (task.Choices settings) fault (none, inr (inl is)) = of_cause is.text is.cause fault is.is
-  of_task (task.Choices settings) fault (none, inr (inr is)) = of_draw _ is.text is.conditions fault is.undrawn
-  of_task (task.Clash settings) fault (none, inl unread) = of_unread _ fault unread
-  of_task (task.Clash settings) fault (none, inr (inl is)) = of_cause is.text is.cause fault is.is
-  of_task (task.Clash settings) fault (none, inr (inr is)) = of_draw _ is.text is.conditions fault is.undrawn
+  of_task (task.Choices question) fault (none, inl unread) = of_unread _ fault unread
+  of_task (task.Choices question) fault (none, inr (inl is)) = of_cause is.text is.cause fault is.is
+  of_task (task.Choices question) fault (none, inr (inr is)) = of_draw question.run is.text is.conditions fault is.undrawn
+  of_task (task.Clash question) fault (none, inl unread) = of_unread _ fault unread
+  of_task (task.Clash question) fault (none, inr (inl is)) = of_cause is.text is.cause fault is.is
+  of_task (task.Clash question) fault (none, inr (inr is)) = of_draw question.run is.text is.conditions fault is.undrawn
   of_task (task.Show settings) fault (none, inl unread) = of_unread _ fault unread
   of_task (task.Show settings) fault (none, inr (inl is)) = of_cause is.text is.cause fault is.is
-  of_task (task.Show settings) fault (none, inr (inr is)) = of_draw _ is.text is.conditions fault is.undrawn
+  of_task (task.Show settings) fault (none, inr (inr is)) = of_draw settings.run is.text is.conditions fault is.undrawn
 
   module _ (old new : Option (List ℕ)) (has_failed : Bool) (words : List Text) where
     pub why_none : (fault : NoAnswer) → IsWithoutReport old new has_failed contents input before after words fault
