@@ -1,5 +1,10 @@
 pub mod ChosenTexts
+pub mod JsonRows
+pub mod JsonTexts
 pub mod Lines
+pub mod PageStyle
+pub mod Pages
 pub mod Rows
+pub mod RunWords
 pub mod Tables
 pub mod code

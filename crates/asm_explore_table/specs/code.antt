@@ -2,5 +2,7 @@
 pub mod ChoiceTexts
 pub mod Commas
 pub mod Extents
+pub mod JsonParts
 pub mod Layouts
+pub mod RunsSaid
 pub mod StepsMade

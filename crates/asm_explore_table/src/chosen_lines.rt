@@ -75,7 +75,7 @@ fn variable<'c>(rule: &'c Rule) -> Option<&'c Name>
 }
 
 /// The candidate that is taken.
-fn taken(asked: &ChoicePoint) -> Word
+pub(crate) fn taken(asked: &ChoicePoint) -> Word
     ensures { result ≡ taken_value (asked_said asked.now) }
 {
     let number = asked.choice.number as usize;
@@ -87,7 +87,7 @@ fn taken(asked: &ChoicePoint) -> Word
 }
 
 /// The name of the variable of the `choose` at a place, if one is there.
-fn name_at<'c>(place: &PlaceInText<'c>) -> &'c [u8]
+pub(crate) fn name_at<'c>(place: &PlaceInText<'c>) -> &'c [u8]
     ensures { result.now ≡ name_text (variable_of (rule_of place.now.rule.now)) }
 {
     match variable(place.rule) {
