@@ -4,7 +4,7 @@ _asm_explore_all_options=$'--steps\n--turns\n--always\n--always-file\n--deadlock
 _asm_explore_random_options=$'--steps\n--turns\n--always\n--always-file\n--deadlock-unless\n--outcomes\n--runs\n--seed\n--trace\n--table\n--progress\n--help\n--version'
 _asm_explore_choices_options=$'--steps\n--turns\n--script\n--draw\n--always\n--always-file\n--help\n--version'
 _asm_explore_clash_options=$'--steps\n--turns\n--script\n--always\n--always-file\n--help\n--version'
-_asm_explore_show_options=$'--steps\n--turns\n--script\n--draw\n--always\n--always-file\n--only\n--width\n--help\n--version'
+_asm_explore_show_options=$'--steps\n--turns\n--script\n--draw\n--always\n--always-file\n--only\n--width\n--html\n--json\n--help\n--version'
 _asm_explore_plain=$'--steps\n--turns\n--always\n--deadlock-unless\n--within\n--states\n--outcomes\n--workers\n--dot-only\n--runs\n--seed\n--draw\n--only\n--width'
 _asm_explore() {
     local current="${COMP_WORDS[COMP_CWORD]}" before="${COMP_WORDS[COMP_CWORD - 1]}" command="${COMP_WORDS[1]}"

@@ -6,6 +6,7 @@ mod ConditionLines
 mod JoinedTerms
 mod PrintedScripts
 mod ShownEnds
+mod SaidCalls
 mod SkippedLines
 mod ToldEnds
 mod TraceText

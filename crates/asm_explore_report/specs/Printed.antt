@@ -8,7 +8,7 @@
 --     named name parts                  the name of these parts, if there are any
 --     left_out names                    the line that says what is left out, if anything is
 --     behind_first first others script  the first comment, the others, and the script
---     IsReportText                      the longest of these that fits
+--     IsReportText                      the first of these that fits, from the whole report on
 --     IsPrinted                         a report with a table, a trace and a script
 use Rattle.std.specs.Prelude.{◌≡◌, ◌⊎◌, ◌<◌, ◌≤◌, ℕ, List, [], ◌∷◌, ◌++◌, length, map, codes}
 use Rattle.std.specs.List.{flat_map}

@@ -1,5 +1,5 @@
-//! Laws of joined conditions, and of comments before a script.
-ghost use Rattle.std.specs.Prelude.{◌≡◌, ◌≤◌, ◌++◌, ℕ, List, Option, Some, length};
+//! Laws of joined conditions, of comments before a script, and of the call of `asm` among them.
+ghost use Rattle.std.specs.Prelude.{◌≡◌, ◌≤◌, ◌++◌, ℕ, List, Option, Some, codes, length};
 ghost use Rattle.std.specs.List.{list_all};
 ghost use Rattle.asm_state.specs.Location.{State};
 ghost use Rattle.asm_state.specs.declared.operation.Op.{Op};
@@ -9,9 +9,11 @@ ghost use Rattle.asm_syntax.specs.code.Views.{spec_of, test_of};
 ghost use Rattle.asm_syntax.specs.declared.term.Term.{Term};
 ghost use Rattle.asm_check.specs.declared.checked.Checked.{Checked};
 ghost use Rattle.asm_explore.specs.code.ResolvedConditions.{term_holds};
-ghost use Rattle.asm_explore_texts.specs.Comments.{comments};
+ghost use Rattle.asm_explore_texts.specs.Comments.{comments, in_one_line};
+ghost use Rattle.asm_explore_texts.specs.RunNumbers.{numbers_in_line};
 ghost use Rattle.asm_explore_texts.specs.code.CodedConditions.{AreAnds, IsJoined, terms_in};
 ghost use Rattle.asm_explore_report.specs.AskedConditions.{AreAllAsked};
+ghost use Rattle.asm_explore_report.specs.Commands.{command};
 ghost use Rattle.asm_explore_report.specs.code.JoinedConditions.{AreAllJoined};
 
 use asm_check::Checked;
@@ -38,4 +40,10 @@ pub fn all_asked_law()
 pub fn comments_law()
     ensures { (text : List ℕ) (script : Script) → IsScript text script →
         (lines : List (List ℕ)) → length (comments lines ++ text) ≤ max_script → IsScript (comments lines ++ text) script }
+{}
+
+/// The call of `asm` that a report has as a comment says how many steps and turns its run has.
+pub fn call_law()
+    ensures { (steps turns : ℕ) (name : List ℕ) → steps ≤ 1_000_000 → 1 ≤ turns → turns ≤ 1_000_000 →
+        numbers_in_line (codes "# " ++ in_one_line (command steps turns name)) ≡ Some (record { steps = steps; turns = turns }) }
 {}

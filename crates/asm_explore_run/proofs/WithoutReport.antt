@@ -3,7 +3,7 @@
 --     of_script           the script's is
 --     of_condition        one of the conditions is
 --     of_showing          the run of both can't be shown
---     of_shown            nor as a table
+--     of_shown            nor in any form
 use Rattle.std.proofs.Common.{ℕ, List, inl, inr}
 use Rattle.asm_syntax.specs.SourceTree.{Spec}
 use Rattle.asm_run.specs.Headline.{IsAccepted}
@@ -50,7 +50,7 @@ module _ (text script_text : List ℕ) (conditions : List Condition) (settings :
   of_showing unshown.Memory is = tt
   of_showing unshown.Unconfirmed is = is
 
-pub of_shown : (text script_text : List ℕ) (conditions : List Condition) (settings : ShowSettings) (why : Unshown) → IsWithoutRefusal text script_text conditions settings
-    → ExplainsShow text script_text conditions settings (fault_of_unshown why)
-of_shown text script_text conditions settings unshown.Memory is = tt
-of_shown text script_text conditions settings unshown.Unconfirmed is = is
+pub of_shown : (text script_text : List ℕ) (conditions : List Condition) (run : RunSettings) (settings : ShowSettings) (why : Unshown) → IsWithoutRefusal text script_text conditions run settings
+    → ExplainsShow text script_text conditions run settings (fault_of_unshown why)
+of_shown text script_text conditions run settings unshown.Memory is = tt
+of_shown text script_text conditions run settings unshown.Unconfirmed is = is

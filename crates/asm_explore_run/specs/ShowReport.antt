@@ -1,5 +1,6 @@
--- Definition. What is printed of a run as a table.
+-- Definition. What is printed of a run that is shown: a table, a page of HTML, or lines of JSON.
 --     names_shown settings      the names that are to be shown
+--     words_of                  what is said of the run beside its rows, but in a table
 --     IsScriptPart              the text of the script that the run needs, or a comment that says
 --                               that it is left out, where it can't be written
 --     IsShowText                comments: how the run ends, and why; a call of `asm` that makes it;
@@ -7,7 +8,8 @@
 --                               given script that name no choice. Behind them stands the script;
 --                               and all that is printed is one that says the same, unless it is too
 --                               long
---     IsShown                   the run that settings ask for is shown so
+--     IsShownText form          what is printed in this form
+--     IsShown                   the run that settings ask for is shown so; how, further settings say
 --     IsWithoutRefusal          no text is refused, and each name is known that is to be shown
 --     ExplainsShow              why there is no report: a text is refused; no location has a name
 --                               that is to be shown, nor the function of one; memory ran out; or the
@@ -25,7 +27,10 @@ use Rattle.asm_explore_texts.specs.Comments.{comments}
 use Rattle.asm_explore_texts.specs.Conditions.{AreAskedOf, texts_of}
 use Rattle.asm_explore_texts.specs.RefusedTexts.{IsOneRefused}
 use Rattle.asm_explore_texts.specs.declared.conditions.Condition.{Condition}
+use Rattle.asm_explore_table.specs.JsonRows.{json_text}
+use Rattle.asm_explore_table.specs.Pages.{page_text}
 use Rattle.asm_explore_table.specs.Rows.{rows_of}
+use Rattle.asm_explore_table.specs.RunWords.{RunWords}
 use Rattle.asm_explore_table.specs.Tables.{IsFirstUnknown, IsTable, is_known}
 use Rattle.asm_explore_report.specs.Commands.{command}
 use Rattle.asm_explore_report.specs.Refusals.{IsRunRefused}
@@ -35,10 +40,25 @@ use Rattle.asm_explore_run.specs.ShownRun.{IsShownEnd, ShownEnd}
 use Rattle.asm_explore_run.specs.UnmetLines.{unmet_lines}
 use Rattle.asm_explore_words.specs.declared.fault.Fault.{Fault}
 use Rattle.asm_explore_words.specs.declared.fault.Fault.TheVariants as fault
+use Rattle.asm_explore_words.specs.declared.settings.RunSettings.{RunSettings}
+use Rattle.asm_explore_words.specs.declared.settings.ShowForm.{ShowForm}
+use Rattle.asm_explore_words.specs.declared.settings.ShowForm.TheVariants as form
 use Rattle.asm_explore_words.specs.declared.settings.ShowSettings.{ShowSettings}
 
 abbrev pub names_shown : ShowSettings → List (List ℕ)
 names_shown settings = map (λ name. name.now) settings.names.items
+
+abbrev pub words_of : (turns : ℕ) → (spec : List ℕ) → ShownEnd → (unmet : List (List ℕ)) → RunWords
+words_of turns spec end unmet =
+    record {
+      name = spec;
+      end = end.first;
+      because = end.because;
+      command = command end.steps turns spec;
+      assignments = end.assignments;
+      unmet = unmet;
+      is_fault = end.is_fault;
+    }
 
 module _ (tree : Spec) (turns : ℕ) (script : Script) where
   abbrev pub IsScriptPart : (steps : ℕ) → List ℕ → Type 0
@@ -57,7 +77,14 @@ module _ (tree : Spec) (turns : ℕ) (script : Script) where
     -- it spells what this part does, unless it is too long for a script
     pub says : (said : Script) → IsScript part said → IsScript printed said ⊎ (max_script < length printed)
 
-module _ (text script_text : List ℕ) (conditions : List Condition) (settings : ShowSettings) where
+  abbrev pub IsShownText : ShowForm → (spec : List ℕ) → (names : List (List ℕ)) → (most : ℕ) → ShownEnd → (unmet : List (List ℕ)) → (printed : List ℕ) → Type 0
+  IsShownText form.Table spec names most end unmet printed = IsShowText spec names most end unmet printed
+  IsShownText form.Page spec names most end unmet printed =
+      printed ≡ page_text tree names (words_of turns spec end unmet) (specification_of tree).initial (rows_of tree turns script end.steps)
+  IsShownText form.Json spec names most end unmet printed =
+      printed ≡ json_text tree names (words_of turns spec end unmet) (specification_of tree).initial (rows_of tree turns script end.steps)
+
+module _ (text script_text : List ℕ) (conditions : List Condition) (run : RunSettings) (settings : ShowSettings) where
   pub record IsShown (report : Report) : Type 0 where
     pub tree : Spec
     pub accepted : IsAccepted text tree
@@ -67,10 +94,10 @@ module _ (text script_text : List ℕ) (conditions : List Condition) (settings :
     pub asked : AreAskedOf tree (texts_of conditions) terms
     pub known : All (λ name. is_known tree name ≡ true) (names_shown settings)
     pub end : ShownEnd
-    pub is_end : IsShownEnd text tree terms settings.run.turns script settings.run.steps end
+    pub is_end : IsShownEnd text tree terms run.turns script run.steps end
     pub steps : List (List Choice)
-    pub choices : AreChoices tree settings.run.turns script end.steps steps
-    pub printed : IsShowText tree settings.run.turns script settings.run.spec.now (names_shown settings) settings.width end (unmet_lines script_text (lines_forward steps)) report.text.items
+    pub choices : AreChoices tree run.turns script end.steps steps
+    pub printed : IsShownText tree run.turns script settings.form run.spec.now (names_shown settings) settings.width end (unmet_lines script_text (lines_forward steps)) report.text.items
     pub status : report.status ≡ run_status end.is_fault (unmet_lines script_text (lines_forward steps))
 
   pub record IsWithoutRefusal : Type 0 where
@@ -83,7 +110,7 @@ module _ (text script_text : List ℕ) (conditions : List Condition) (settings :
     pub known : All (λ name. is_known tree name ≡ true) (names_shown settings)
 
   abbrev pub ExplainsShow : Fault → Type 0
-  ExplainsShow (fault.Text refused) = IsRunRefused text settings.run.spec.now script_text settings.run refused ⊎ ((s : Spec) × IsAccepted text s × IsOneRefused s conditions refused)
+  ExplainsShow (fault.Text refused) = IsRunRefused text run.spec.now script_text run refused ⊎ ((s : Spec) × IsAccepted text s × IsOneRefused s conditions refused)
   ExplainsShow (fault.Name name) = (s : Spec) × IsAccepted text s × IsFirstUnknown s (names_shown settings) name.now
   ExplainsShow fault.Memory = ⊤
   ExplainsShow fault.Unconfirmed = IsWithoutRefusal

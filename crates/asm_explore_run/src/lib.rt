@@ -16,4 +16,5 @@ pub mod show_report;
 mod show_text;
 mod shown_assignments;
 mod shown_end;
+mod shown_text;
 mod unmet_lines;

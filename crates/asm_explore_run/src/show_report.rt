@@ -1,4 +1,4 @@
-//! What is printed of a run as a table.
+//! What is printed of a run that is shown.
 ghost use Rattle.std.specs.Prelude.{◌≡◌, ◌+◌, ◌≤◌, All, false, true, List, IfErr, IfNone, IfOk, IfSome};
 ghost use Rattle.asm_syntax.specs.SourceTree.{Term as SourceTerm};
 ghost use Rattle.asm_syntax.specs.code.Views.{spec_of};
@@ -11,14 +11,14 @@ ghost use Rattle.asm_explore_texts.specs.Conditions.{AreAskedOf, texts_of};
 ghost use Rattle.asm_explore_texts.specs.RefusedTexts.{ExplainsText, IsOneRefused};
 ghost use Rattle.asm_explore_report.specs.BrokenRuns.{HoldBefore, IsFirstBroken};
 ghost use Rattle.asm_explore_run.specs.AskedRun.{run_status};
-ghost use Rattle.asm_explore_run.specs.ShowReport.{ExplainsShow, IsShown, IsShowText, names_shown};
+ghost use Rattle.asm_explore_run.specs.ShowReport.{ExplainsShow, IsShown, IsShownText, names_shown};
 ghost use Rattle.asm_explore_run.specs.ShownRun.{IsShownEnd};
 ghost use Rattle.asm_explore_run.specs.UnmetLines as unmet;
 ghost use Rattle.asm_explore_run.specs.code.ShownEnds.{end_said};
 
 use crate::asked_end::{broken_of, status_of};
-use crate::show_text::show_text;
 use crate::shown_end::{ShownEnd, shown_end};
+use crate::shown_text::shown_text;
 use crate::unmet_lines::unmet_lines;
 use asm_check::Checked;
 use asm_explore::{choices_of_run, lines_of_run};
@@ -28,7 +28,7 @@ use asm_explore_table::names::unknown_name;
 use asm_explore_texts::conditions::Condition;
 use asm_explore_texts::script_given::script_given;
 use asm_explore_words::fault::Fault;
-use asm_explore_words::settings::ShowSettings;
+use asm_explore_words::settings::{RunSettings, ShowSettings};
 use asm_reader::Script;
 use std::alloc::{AllocError, Global};
 use std::thread::Threads;
@@ -57,22 +57,22 @@ fn report_of_end(
     checked: &Checked,
     script_text: &[u8],
     script: &Script,
+    run: &RunSettings<'_>,
     settings: &ShowSettings<'_>,
     end: &ShownEnd,
 ) -> Result<Report, AllocError>
-    ensures { let s = spec_of checked.now.spec in let turns = settings.now.run.turns in
+    ensures { let s = spec_of checked.now.spec in let turns = run.now.turns in
         IfOk result (λ report. (made : List (List Choice)) × AreChoices s turns script.now end.now.steps made
-        × IsShowText s turns script.now settings.now.run.spec.now (names_shown settings.now) settings.now.width (end_said end.now) (unmet.unmet_lines script_text.now (lines_forward made)) report.text.items
+        × IsShownText s turns script.now settings.now.form run.now.spec.now (names_shown settings.now) settings.now.width (end_said end.now) (unmet.unmet_lines script_text.now (lines_forward made)) report.text.items
         × (report.status ≡ run_status end.now.is_fault (unmet.unmet_lines script_text.now (lines_forward made)))) }
 {
-    let turns = settings.run.turns;
-    let unmet = unmet_of(alloc, checked, turns, script_text, script, end.steps)?;
-    let text = show_text(alloc, checked, script, settings, end, unmet.as_slice())?;
+    let unmet = unmet_of(alloc, checked, run.turns, script_text, script, end.steps)?;
+    let text = shown_text(alloc, checked, script, run, settings, end, unmet.as_slice())?;
     let status = status_of(end.is_fault, unmet.as_slice());
     Ok(Report { text, status })
 }
 
-/// What is printed of the run of a specification that the settings ask for.
+/// What is printed of this run of a specification, as the further settings ask for.
 fn report_of<'w, R: Threads + Sync>(
     rt: &R,
     alloc: Global,
@@ -80,39 +80,49 @@ fn report_of<'w, R: Threads + Sync>(
     checked: &Checked,
     script_text: &[u8],
     conditions: &[Condition<'w>],
+    run: &RunSettings<'w>,
     settings: &ShowSettings<'w>,
 ) -> Result<Report, Fault<'w>>
     requires accepted { IsAccepted text.now (spec_of checked.now.spec) }
-    ensures reported { IfOk result (IsShown text.now script_text.now conditions.now settings.now) }
-    ensures explained { IfErr result (ExplainsShow text.now script_text.now conditions.now settings.now) }
+    ensures reported { IfOk result (IsShown text.now script_text.now conditions.now run.now settings.now) }
+    ensures explained { IfErr result (ExplainsShow text.now script_text.now conditions.now run.now settings.now) }
 {
-    let script = script_given(alloc, script_text, &settings.run)?;
+    let script = script_given(alloc, script_text, run)?;
     match unknown_name(alloc, checked, settings.names.as_slice())? {
         Some(name) => return Err(Fault::Name(name)),
         None => {}
     }
-    let run = &settings.run;
     let broken = broken_of(alloc, checked, &script, conditions, run)?;
     let end = shown_end(rt, alloc, text, checked, script_text, &script, run, broken)?;
-    let report = report_of_end(alloc, checked, script_text, &script, settings, &end)?;
+    let report = report_of_end(alloc, checked, script_text, &script, run, settings, &end)?;
     Ok(report)
 }
 
-/// What is printed of the run that the settings ask for as a table, above a script that makes it.
-/// The run is shown up to the first state in which one of the conditions isn't true.
+/// What is printed of this run, in the form that the further settings ask for: the settings' own run
+/// isn't looked at. The run is shown up to the first state in which one of the conditions isn't true.
 pub fn show_report<'w, R: Threads + Sync>(
     rt: &R,
     alloc: Global,
     text: &[u8],
     script_text: &[u8],
     conditions: &[Condition<'w>],
+    run: &RunSettings<'w>,
     settings: &ShowSettings<'w>,
 ) -> Result<Report, Fault<'w>>
-    ensures reported { IfOk result (IsShown text.now script_text.now conditions.now settings.now) }
-    ensures explained { IfErr result (ExplainsShow text.now script_text.now conditions.now settings.now) }
+    ensures reported { IfOk result (IsShown text.now script_text.now conditions.now run.now settings.now) }
+    ensures explained { IfErr result (ExplainsShow text.now script_text.now conditions.now run.now settings.now) }
 {
-    let checked = checked(alloc, text, settings.run.spec)?;
-    let report = report_of(rt, alloc, text, &checked, script_text, conditions, settings);
+    let checked = checked(alloc, text, run.spec)?;
+    let report = report_of(
+        rt,
+        alloc,
+        text,
+        &checked,
+        script_text,
+        conditions,
+        run,
+        settings,
+    );
     drop(checked);
     report
 }

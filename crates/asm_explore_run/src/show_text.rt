@@ -15,7 +15,7 @@ use asm_explore_report::command::command;
 use asm_explore_report::laws::comments_law;
 use asm_explore_table::table::{TableSettings, add_table};
 use asm_explore_texts::comment::{add_comment, add_comments, comments};
-use asm_explore_words::settings::ShowSettings;
+use asm_explore_words::settings::{RunSettings, ShowSettings};
 use asm_reader::Script;
 use asm_resolve::main_rule::resolve_main;
 use std::alloc::{AllocError, Global};
@@ -71,16 +71,17 @@ pub(crate) fn show_text(
     alloc: Global,
     checked: &Checked,
     script: &Script,
+    run: &RunSettings<'_>,
     settings: &ShowSettings<'_>,
     end: &ShownEnd,
     unmet: &[Vec<u8>],
 ) -> Result<Vec<u8>, AllocError>
-    ensures { IfOk result (λ text. IsShowText (spec_of checked.now.spec) settings.now.run.turns script.now settings.now.run.spec.now (names_shown settings.now) settings.now.width (end_said end.now) (lines_of unmet.now) text.items) }
+    ensures { IfOk result (λ text. IsShowText (spec_of checked.now.spec) run.now.turns script.now run.now.spec.now (names_shown settings.now) settings.now.width (end_said end.now) (lines_of unmet.now) text.items) }
 {
     comments_law();
-    let (steps, turns) = (end.steps, settings.run.turns);
+    let (steps, turns) = (end.steps, run.turns);
     let mut text = comments(alloc, end.first.as_slice(), end.because.as_slice())?;
-    let call = command(alloc, u64::from(steps), turns, settings.run.spec)?;
+    let call = command(alloc, u64::from(steps), turns, run.spec)?;
     add_comment(&mut text, call.as_slice())?;
     let shown = TableSettings {
         names: settings.names.as_slice(),

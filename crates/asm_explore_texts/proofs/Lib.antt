@@ -3,4 +3,5 @@ mod LineParts
 mod LineStarts
 mod Links
 mod RuleNumbers
+mod SaidNumbers
 mod CharactersOfUtf8

@@ -3,4 +3,5 @@ pub mod Conditions
 pub mod Places
 pub mod Positions
 pub mod RefusedTexts
+pub mod RunNumbers
 pub mod code

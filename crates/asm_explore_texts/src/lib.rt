@@ -10,5 +10,6 @@ mod first_name;
 pub mod position;
 pub mod position_text;
 pub mod rule_in_text;
+pub mod run_numbers;
 pub mod script_given;
 pub mod variable_at;

@@ -2,9 +2,10 @@
 --     word_source, word_text     one more that a word gives
 --     file_source                one more in a file
 --     among_files                a file that can't be read, of several
---     given_alike, unread_alike  conditions that are given by these words and names, and a text that
---                                can't be read for them
-use Rattle.std.proofs.Common.{◌≡◌, ◌∙◌, ℕ, suc, ◌+◌, ◌<◌, List, [], ◌∷◌, ◌++◌, length, take, get_or, Option, inr, ap, sym, subst, arith}
+--     given_alike                what is read for a run with conditions by these words and names
+--     ungiven_alike              a text that can't be read for them, or a script that can't be drawn
+--     unread_files               a file that can't be read, for a run
+use Rattle.std.proofs.Common.{◌≡◌, ◌∙◌, ◌⊎◌, ℕ, suc, ◌+◌, ◌<◌, List, [], ◌∷◌, ◌++◌, length, take, get_or, Option, inl, inr, ap, sym, subst, arith}
 use Rattle.std.specs.Borrow.{Bor}
 use Rattle.std.proofs.lemmas.List.{append_assoc, map-append, take_more}
 use Rattle.std.proofs.lemmas.Option.{IfSome_then, slice_get-get_or}
@@ -15,7 +16,7 @@ use Rattle.asm_explore_words.specs.declared.fault.Source.{Source}
 use Rattle.asm_explore_words.specs.declared.fault.Source.TheVariants as source
 use Rattle.asm_explore_tool.specs.Faults.{IsUnread, source_in}
 use Rattle.asm_explore_words.specs.declared.settings.RunSettings.{RunSettings}
-use Rattle.asm_explore_tool.specs.GivenTexts.{AreAlwaysGiven, IsAmongFiles, IsReadForQuestion, file_sources, sources_of, word_sources}
+use Rattle.asm_explore_tool.specs.GivenTexts.{IsAmongFiles, IsGivenRun, IsReadForQuestion, IsUndrawnRun, file_sources, sources_of, word_sources}
 use Rattle.asm_explore_tool.specs.declared.no_answer.NoAnswer.{NoAnswer}
 
 module _ (old new : List Condition) (c : Condition) (grown : new ≡ old ++ c ∷ []) where
@@ -49,13 +50,22 @@ pub among_files : (names : List (Bor Text)) (k : ℕ) (d : Bor Text) (fault : No
     → IsUnread (λ s. s ≡ source.AlwaysFile (get_or names k d)) fault → IsUnread (IsAmongFiles names) fault
 among_files names k d fault low h = (IfSome_then (source_in fault) h.0 (λ s is. (k, get_or names k d, slice_get-get_or names k d low, is)), h.1)
 
-pub given_alike : (contents : Text → Option (List ℕ)) (words words' names names' : List (Bor Text)) (conditions : List Condition) → words ≡ words' → names ≡ names'
-    → AreAlwaysGiven contents words names conditions → AreAlwaysGiven contents words' names' conditions
-given_alike contents words words' names names' conditions same also given =
-    subst (λ ns. AreAlwaysGiven contents words' ns conditions) also (subst (λ ws. AreAlwaysGiven contents ws names conditions) same given)
+pub given_alike : (contents : Text → Option (List ℕ)) (input : Option (List ℕ)) (settings : RunSettings) (words words' names names' : List (Bor Text)) (text : List ℕ)
+    (conditions : List Condition) (run : RunSettings) (script : List ℕ) → words ≡ words' → names ≡ names'
+    → IsGivenRun contents input settings words names text conditions run script → IsGivenRun contents input settings words' names' text conditions run script
+given_alike contents input settings words words' names names' text conditions run script same also given =
+    subst (λ ns. IsGivenRun contents input settings words' ns text conditions run script) also
+    (subst (λ ws. IsGivenRun contents input settings ws names text conditions run script) same given)
 
-pub unread_alike : (settings : RunSettings) (names names' : List (Bor Text)) (fault : NoAnswer) → names ≡ names'
-    → IsUnread (IsAmongFiles names) fault → IsUnread (IsReadForQuestion settings names') fault
-unread_alike settings names names' fault same h =
-    let among = subst (λ ns. IsUnread (IsAmongFiles ns) fault) same h in
-    (IfSome_then (source_in fault) among.0 (λ s is. inr is), among.1)
+pub ungiven_alike : (contents : Text → Option (List ℕ)) (input : Option (List ℕ)) (settings : RunSettings) (words words' names names' : List (Bor Text)) (fault : NoAnswer)
+    (Other : Type 0) → words ≡ words' → names ≡ names'
+    → IsUnread (IsReadForQuestion settings names) fault ⊎ IsUndrawnRun contents input settings words names fault
+    → IsUnread (IsReadForQuestion settings names') fault ⊎ (Other ⊎ IsUndrawnRun contents input settings words' names' fault)
+ungiven_alike contents input settings words words' names names' fault Other same also (inl unread) =
+    inl (subst (λ ns. IsUnread (IsReadForQuestion settings ns) fault) also unread)
+ungiven_alike contents input settings words words' names names' fault Other same also (inr undrawn) =
+    inr (inr (subst (λ ns. IsUndrawnRun contents input settings words' ns fault) also (subst (λ ws. IsUndrawnRun contents input settings ws names fault) same undrawn)))
+
+pub unread_files : (settings : RunSettings) (names : List (Bor Text)) (fault : NoAnswer)
+    → IsUnread (IsAmongFiles names) fault → IsUnread (IsReadForQuestion settings names) fault
+unread_files settings names fault among = (IfSome_then (source_in fault) among.0 (λ s is. inr is), among.1)

@@ -3,7 +3,7 @@
 use Rattle.std.proofs.Common.{◌≡◌, codes, Bool, true, false, List, [], ◌∷◌, Some, refl, sym, ap, ◌∙◌}
 use Rattle.std.specs.Prelude.{◌&&◌, ◌||◌, option_map}
 use Rattle.clap.specs.Walk.{Row, Text, first_of}
-use Rattle.asm_explore_words.specs.WordsSaid.{AreRunSaid, AreSaidBehind, AreShowSaid, are_both_chosen, are_both_input, is_input, is_run_at_odds, reads_input_twice, reads_task_twice, run_rows, show_rows}
+use Rattle.asm_explore_words.specs.WordsSaid.{AreRunSaid, AreSaidBehind, AreShowSaid, are_both_chosen, are_both_input, are_two_forms, is_input, is_run_at_odds, reads_input_twice, reads_task_twice, run_rows, show_rows}
 use Rattle.asm_explore_words.specs.declared.settings.RunQuestion.{RunQuestion}
 use Rattle.asm_explore_words.specs.declared.settings.RunSettings.{RunSettings}
 use Rattle.asm_explore_words.specs.declared.settings.ShowSettings.{ShowSettings}
@@ -30,7 +30,9 @@ once_said draws words question said =
     twice_alike (run_rows draws words) question.run said.1.run.spec said.1.run.script ∙ not_twice draws (run_rows draws words) said.0.1
 
 once_shown : (words : List Text) (settings : ShowSettings) → AreShowSaid words settings → reads_input_twice settings.run ≡ false
-once_shown words settings said = twice_alike (show_rows words) settings.run said.1.spec said.1.script ∙ not_twice true (show_rows words) said.0.1
+once_shown words settings said =
+    let rows = show_rows words in
+    twice_alike rows settings.run said.1.spec said.1.script ∙ not_twice true rows (first_false (is_run_at_odds true rows) (are_two_forms rows) said.0.1)
 
 pub never_twice : (words : List Text) (asked : Task) → AreSaidBehind words asked → reads_task_twice asked ≡ false
 never_twice [] asked said = absurd said

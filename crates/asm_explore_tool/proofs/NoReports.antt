@@ -12,6 +12,7 @@ use Rattle.asm_explore_words.specs.declared.fault.Source.{Source}
 use Rattle.asm_explore_words.specs.declared.settings.RunSettings.{RunSettings}
 use Rattle.asm_explore_words.specs.declared.settings.Task.{Task}
 use Rattle.asm_explore_words.specs.declared.settings.Task.TheVariants as task
+use Rattle.asm_explore_texts.specs.RunNumbers.{with_numbers}
 use Rattle.asm_explore_texts.specs.declared.conditions.Condition.{Condition}
 use Rattle.asm_explore_tool.specs.Faults.{IsToldOf, IsUnread}
 use Rattle.asm_explore_tool.specs.GivenTexts.{IsUndrawn}
@@ -72,13 +73,13 @@ module _ (contents : Text → Option (List ℕ)) (input : Option (List ℕ)) (be
   of_task (task.Random settings) fault (none, inr is) = of_cause is.text is.cause fault is.is
   of_task (task.Choices question) fault (none, inl unread) = of_unread _ fault unread
   of_task (task.Choices question) fault (none, inr (inl is)) = of_cause is.text is.cause fault is.is
-  of_task (task.Choices question) fault (none, inr (inr is)) = of_draw question.run is.text is.conditions fault is.undrawn
+  of_task (task.Choices question) fault (none, inr (inr is)) = of_draw (with_numbers question.run is.script_given) is.text is.conditions fault is.undrawn
   of_task (task.Clash question) fault (none, inl unread) = of_unread _ fault unread
   of_task (task.Clash question) fault (none, inr (inl is)) = of_cause is.text is.cause fault is.is
-  of_task (task.Clash question) fault (none, inr (inr is)) = of_draw question.run is.text is.conditions fault is.undrawn
+  of_task (task.Clash question) fault (none, inr (inr is)) = of_draw (with_numbers question.run is.script_given) is.text is.conditions fault is.undrawn
   of_task (task.Show settings) fault (none, inl unread) = of_unread _ fault unread
   of_task (task.Show settings) fault (none, inr (inl is)) = of_cause is.text is.cause fault is.is
-  of_task (task.Show settings) fault (none, inr (inr is)) = of_draw settings.run is.text is.conditions fault is.undrawn
+  of_task (task.Show settings) fault (none, inr (inr is)) = of_draw (with_numbers settings.run is.script_given) is.text is.conditions fault is.undrawn
 
   module _ (old new : Option (List ℕ)) (has_failed : Bool) (words : List Text) where
     pub why_none : (fault : NoAnswer) → IsWithoutReport old new has_failed contents input before after words fault

@@ -57,7 +57,7 @@ module _ (contents : Text → Option (List ℕ)) (input : Option (List ℕ)) (be
   of_report (task.Choices question) report h =
       let is = h.1.reported in apart report.status _ is.status (of_run is.is_fault _)
   of_report (task.Clash question) report h =
-      let asked = h.1 in of_clash asked.text asked.script_text asked.conditions question.run report asked.reported
+      let asked = h.1 in of_clash asked.text asked.script_text asked.conditions asked.run report asked.reported
   of_report (task.Show settings) report h =
       let is = h.1.reported in apart report.status _ is.status (of_run is.end.is_fault _)
 

@@ -13,6 +13,13 @@
 --                                              that is given, or if its choices are drawn, that of
 --                                              the run that is drawn
 --     IsUndrawn settings text conditions fault     why there is none, if they are
+--     IsGivenRun contents input settings words names text conditions run script
+--                                              what is read for settings, with conditions by these
+--                                              words and in these files: the text, the conditions,
+--                                              the run, whose numbers may be those that the given
+--                                              script says, and its script
+--     IsUndrawnRun contents input settings words names fault
+--                                              why its script can't be had, if it is to be drawn
 --     IsAmongFiles names source                the source is one of these files, of a condition
 --     IsRead, IsReadForRun                     the source is one of those that are read for settings
 --     IsReadForQuestion                        of a run: or one of the files of its conditions
@@ -32,6 +39,7 @@ use Rattle.std.specs.Str.{bytes_eq}
 use Rattle.clap.specs.Walk.{Text, texts}
 use Rattle.asm_files.specs.Input.{IsFront, bytes_of}
 use Rattle.asm_explore_texts.specs.Conditions.{text_of, texts_of}
+use Rattle.asm_explore_texts.specs.RunNumbers.{with_numbers}
 use Rattle.asm_explore_texts.specs.declared.conditions.Condition.{Condition}
 use Rattle.asm_explore_texts.specs.declared.conditions.Conditions.{Conditions}
 use Rattle.asm_explore_random.specs.DrawnScripts.{ExplainsUndrawn, IsScriptDrawn}
@@ -132,3 +140,21 @@ module _ (settings : RunSettings) (text : List ℕ) (conditions : List Condition
   IsUndrawn Memory = ⊤
   IsUndrawn (Draw seed) = (settings.draw ≡ Some seed) × ExplainsUndrawn text conditions settings seed Unwritten
   IsUndrawn fault = ⊥
+
+-- ---- a run
+
+module _ (contents : Text → Option (List ℕ)) (input : Option (List ℕ)) (settings : RunSettings) (words names : List (Bor Text)) where
+  pub record IsGivenRun (text : List ℕ) (conditions : List Condition) (run : RunSettings) (script : List ℕ) : Type 0 where
+    pub script_given : List ℕ
+    pub are_texts : AreRunTexts contents input settings text script_given
+    pub given : AreAlwaysGiven contents words names conditions
+    pub is_run : run ≡ with_numbers settings script_given
+    pub is_script : IsScriptOfRun run text conditions script_given script
+
+  pub record IsUndrawnRun (fault : NoAnswer) : Type 0 where
+    pub text : List ℕ
+    pub script_given : List ℕ
+    pub are_texts : AreRunTexts contents input settings text script_given
+    pub conditions : List Condition
+    pub given : AreAlwaysGiven contents words names conditions
+    pub undrawn : IsUndrawn (with_numbers settings script_given) text conditions fault

@@ -1,9 +1,9 @@
 -- Definition. What the program writes for words.
 --     AppendsUpTo old new text    known bytes grow by a front of the text, which may be all of it
---     IsReportOfAll, IsReportOfRandom, IsReportOfRun
---                                 the report for settings of `all`, of `random`, of one run, of the
---                                 texts that are read for them; the files that are known to be made
---                                 grow by those that `all` makes
+--     IsReportOfAll, IsReportOfRandom, IsReportOfRun, IsReportOfShow
+--                                 the report for settings of `all`, of `random`, of one run and of
+--                                 `show`, of the texts that are read for them; the files that are
+--                                 known to be made grow by those that `all` makes
 --     IsReportOf                  the report for a command with its settings; the other commands
 --                                 make no file
 --     IsOutput                    the report for the words: its text is written, and its status is
@@ -11,12 +11,10 @@
 --     IsHelp                      words are refused, and ask for help or for the version: some text
 --                                 is written
 --     IsAnswer                    one of the two; help makes no file
---     IsFaultOfAll, IsFaultOfRandom, IsFaultOfRun
+--     IsFaultOfAll, IsFaultOfRandom, IsFaultOfRun, IsFaultOfShow
 --                                 the fault for which there is no report for settings of `all`, of
---                                 `random`, of one run, of the texts that are read for them; and
---                                 what is made of the files of `all`
---     IsUndrawnRun                the fault for which the script of a run can't be had that is to be
---                                 drawn
+--                                 `random`, of one run and of `show`, of the texts that are read for
+--                                 them; and what is made of the files of `all`
 --     ExplainsRunTask, ExplainsShowTask
 --                                 a text can't be had; or it is the fault of a run, or of its drawing
 --     ExplainsTask                a text can't be had, and no file is made; or it is such a fault. The
@@ -29,13 +27,12 @@
 --     IsExplained                 one of the two says why the status is what it is; for refused words
 --                                 no file is made
 use Rattle.std.specs.Prelude.{◌≡◌, ◌⊎◌, ℕ, Bool, List, [], Option, IsTrue, take}
-use Rattle.std.specs.Borrow.{Bor}
 use Rattle.std.specs.Io.KnownBytes.{Appends, Keeps}
 use Rattle.clap.specs.Kinds.{IsAmong, Kinds}
 use Rattle.clap.specs.Values.{kind_of}
 use Rattle.clap.specs.Walk.{Text}
 use Rattle.asm_explore_tool.specs.Faults.{IsToldOf, IsUnread, status_of}
-use Rattle.asm_explore_tool.specs.GivenTexts.{AreAlwaysGiven, AreGiven, AreRandomGiven, AreRunTexts, IsRead, IsReadForQuestion, IsScriptOfRun, IsText, IsUndrawn}
+use Rattle.asm_explore_tool.specs.GivenTexts.{AreGiven, AreRandomGiven, IsGivenRun, IsRead, IsReadForQuestion, IsText, IsUndrawnRun}
 use Rattle.asm_explore_tool.specs.declared.no_answer.NoAnswer.{NoAnswer}
 use Rattle.asm_explore_tool.specs.declared.no_answer.NoAnswer.TheVariants as no_answer
 use Rattle.asm_explore_random.specs.RandomReport.{ExplainsRandom, IsRandomReported}
@@ -78,23 +75,19 @@ module _ (contents : Text → Option (List ℕ)) (input : Option (List ℕ)) whe
 
   pub record IsReportOfRun (AreReported : (text script_text : List ℕ) → List Condition → RunSettings → Report → Type 0) (question : RunQuestion) (report : Report) : Type 0 where
     pub text : List ℕ
-    pub script_given : List ℕ
-    pub are_texts : AreRunTexts contents input question.run text script_given
     pub conditions : List Condition
-    pub given : AreAlwaysGiven contents question.always.items question.always_files.items conditions
+    pub run : RunSettings
     pub script_text : List ℕ
-    pub is_script : IsScriptOfRun question.run text conditions script_given script_text
-    pub reported : AreReported text script_text conditions question.run report
+    pub given : IsGivenRun contents input question.run question.always.items question.always_files.items text conditions run script_text
+    pub reported : AreReported text script_text conditions run report
 
   pub record IsReportOfShow (settings : ShowSettings) (report : Report) : Type 0 where
     pub text : List ℕ
-    pub script_given : List ℕ
-    pub are_texts : AreRunTexts contents input settings.run text script_given
     pub conditions : List Condition
-    pub given : AreAlwaysGiven contents settings.always.items settings.always_files.items conditions
+    pub run : RunSettings
     pub script_text : List ℕ
-    pub is_script : IsScriptOfRun settings.run text conditions script_given script_text
-    pub reported : IsShown text script_text conditions settings report
+    pub given : IsGivenRun contents input settings.run settings.always.items settings.always_files.items text conditions run script_text
+    pub reported : IsShown text script_text conditions run settings report
 
   -- of the files that are known to be made, before and after
   abbrev pub IsReportOf : (before after : Option (List MadeFile)) → Task → Report → Type 0
@@ -126,47 +119,33 @@ module _ (contents : Text → Option (List ℕ)) (input : Option (List ℕ)) whe
 
   pub record IsFaultOfRun (question : RunQuestion) (fault : NoAnswer) : Type 0 where
     pub text : List ℕ
-    pub script_given : List ℕ
-    pub are_texts : AreRunTexts contents input question.run text script_given
     pub conditions : List Condition
-    pub given : AreAlwaysGiven contents question.always.items question.always_files.items conditions
+    pub run : RunSettings
     pub script_text : List ℕ
-    pub is_script : IsScriptOfRun question.run text conditions script_given script_text
+    pub given : IsGivenRun contents input question.run question.always.items question.always_files.items text conditions run script_text
     pub cause : Fault
     pub is : IsToldOf text cause fault
-    pub explained : ExplainsRun text script_text conditions question.run cause
+    pub explained : ExplainsRun text script_text conditions run cause
 
   pub record IsFaultOfShow (settings : ShowSettings) (fault : NoAnswer) : Type 0 where
     pub text : List ℕ
-    pub script_given : List ℕ
-    pub are_texts : AreRunTexts contents input settings.run text script_given
     pub conditions : List Condition
-    pub given : AreAlwaysGiven contents settings.always.items settings.always_files.items conditions
+    pub run : RunSettings
     pub script_text : List ℕ
-    pub is_script : IsScriptOfRun settings.run text conditions script_given script_text
+    pub given : IsGivenRun contents input settings.run settings.always.items settings.always_files.items text conditions run script_text
     pub cause : Fault
     pub is : IsToldOf text cause fault
-    pub explained : ExplainsShow text script_text conditions settings cause
-
-  -- the script of the run can't be had that is to be drawn, with conditions by these words and in
-  -- these files
-  pub record IsUndrawnRun (settings : RunSettings) (words names : List (Bor Text)) (fault : NoAnswer) : Type 0 where
-    pub text : List ℕ
-    pub script_given : List ℕ
-    pub are_texts : AreRunTexts contents input settings text script_given
-    pub conditions : List Condition
-    pub given : AreAlwaysGiven contents words names conditions
-    pub undrawn : IsUndrawn settings text conditions fault
+    pub explained : ExplainsShow text script_text conditions run settings cause
 
   abbrev pub ExplainsRunTask : RunQuestion → NoAnswer → Type 0
   ExplainsRunTask question fault =
       IsUnread (IsReadForQuestion question.run question.always_files.items) fault
-      ⊎ (IsFaultOfRun question fault ⊎ IsUndrawnRun question.run question.always.items question.always_files.items fault)
+      ⊎ (IsFaultOfRun question fault ⊎ IsUndrawnRun contents input question.run question.always.items question.always_files.items fault)
 
   abbrev pub ExplainsShowTask : ShowSettings → NoAnswer → Type 0
   ExplainsShowTask settings fault =
       IsUnread (IsReadForQuestion settings.run settings.always_files.items) fault
-      ⊎ (IsFaultOfShow settings fault ⊎ IsUndrawnRun settings.run settings.always.items settings.always_files.items fault)
+      ⊎ (IsFaultOfShow settings fault ⊎ IsUndrawnRun contents input settings.run settings.always.items settings.always_files.items fault)
 
   abbrev pub ExplainsTask : (before after : Option (List MadeFile)) → Task → NoAnswer → Type 0
   ExplainsTask before after (All settings) fault =

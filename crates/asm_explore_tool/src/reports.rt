@@ -8,10 +8,10 @@ ghost use Rattle.asm_explore_all.specs.MadeFiles.{Makes};
 ghost use Rattle.asm_explore_run.specs.RunReport.{AreChoicesReported, IsClashReported};
 ghost use Rattle.asm_explore_words.specs.WordsSaid.{reads_input_twice, reads_task_twice};
 
-use crate::given_texts::{always_given, conditions, random_conditions, text};
+use crate::given_texts::{conditions, random_conditions, text};
 use crate::no_answer::NoAnswer;
 use crate::progress_lines::ProgressLines;
-use crate::run_texts::{RunTexts, run_texts, script_of_run};
+use crate::run_texts::{GivenRun, given_run};
 use asm_explore::{Progress, Watch};
 use asm_explore_all::all_report::all_report;
 use asm_explore_all::files::NewFiles;
@@ -71,13 +71,24 @@ fn report_of_choices<'w, R: Threads + Sync, F: Folder, I: Read + Drop>(
     ensures report { IfOk result (IsReportOfRun (F.contents folder.now) (I.remaining input) AreChoicesReported question.now) }
     ensures explained { IfErr result (ExplainsRunTask (F.contents folder.now) (I.remaining input) question.now) }
 {
-    let RunTexts { text, script } = run_texts(folder, alloc, &question.run, input)?;
     let names = question.always_files.as_slice();
-    let conditions = always_given(folder, alloc, question.always.as_slice(), names)?;
+    let given = given_run(
+        folder,
+        alloc,
+        &question.run,
+        question.always.as_slice(),
+        names,
+        input,
+    )?;
+    let GivenRun {
+        text,
+        conditions,
+        run,
+        script,
+    } = given;
     let (bytes, asked) = (text.as_slice(), conditions.as_slice());
-    let made = script_of_run(alloc, bytes, asked, &question.run, script)?;
-    let script = made.as_slice();
-    let report = choices_report(rt, alloc, bytes, script, asked, &question.run);
+    let script = script.as_slice();
+    let report = choices_report(rt, alloc, bytes, script, asked, &run);
     told(report, text)
 }
 
@@ -93,13 +104,24 @@ fn report_of_clash<'w, R: Threads + Sync, F: Folder, I: Read + Drop>(
     ensures report { IfOk result (IsReportOfRun (F.contents folder.now) (I.remaining input) IsClashReported question.now) }
     ensures explained { IfErr result (ExplainsRunTask (F.contents folder.now) (I.remaining input) question.now) }
 {
-    let RunTexts { text, script } = run_texts(folder, alloc, &question.run, input)?;
     let names = question.always_files.as_slice();
-    let conditions = always_given(folder, alloc, question.always.as_slice(), names)?;
+    let given = given_run(
+        folder,
+        alloc,
+        &question.run,
+        question.always.as_slice(),
+        names,
+        input,
+    )?;
+    let GivenRun {
+        text,
+        conditions,
+        run,
+        script,
+    } = given;
     let (bytes, asked) = (text.as_slice(), conditions.as_slice());
-    let made = script_of_run(alloc, bytes, asked, &question.run, script)?;
-    let script = made.as_slice();
-    let report = clash_report(rt, alloc, bytes, script, asked, &question.run);
+    let script = script.as_slice();
+    let report = clash_report(rt, alloc, bytes, script, asked, &run);
     told(report, text)
 }
 
@@ -115,13 +137,24 @@ fn report_of_show<'w, R: Threads + Sync, F: Folder, I: Read + Drop>(
     ensures report { IfOk result (IsReportOfShow (F.contents folder.now) (I.remaining input) settings.now) }
     ensures explained { IfErr result (ExplainsShowTask (F.contents folder.now) (I.remaining input) settings.now) }
 {
-    let RunTexts { text, script } = run_texts(folder, alloc, &settings.run, input)?;
     let names = settings.always_files.as_slice();
-    let conditions = always_given(folder, alloc, settings.always.as_slice(), names)?;
+    let given = given_run(
+        folder,
+        alloc,
+        &settings.run,
+        settings.always.as_slice(),
+        names,
+        input,
+    )?;
+    let GivenRun {
+        text,
+        conditions,
+        run,
+        script,
+    } = given;
     let (bytes, asked) = (text.as_slice(), conditions.as_slice());
-    let made = script_of_run(alloc, bytes, asked, &settings.run, script)?;
-    let script = made.as_slice();
-    let report = show_report(rt, alloc, bytes, script, asked, settings);
+    let script = script.as_slice();
+    let report = show_report(rt, alloc, bytes, script, asked, &run, settings);
     told(report, text)
 }
 

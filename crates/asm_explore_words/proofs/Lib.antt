@@ -4,6 +4,7 @@ mod Options
 mod RandomOptions
 mod ReadTexts
 mod RunOptions
+mod SaidWords
 mod ShowOptions
 mod UnsignedNumbers
 mod WordKinds

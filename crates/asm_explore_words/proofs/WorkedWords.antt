@@ -1,10 +1,11 @@
 -- Free. The definitions at words that are written out.
-use Rattle.std.proofs.Common.{◌≡◌, List, [], ◌∷◌, codes, refl, inl, inr}
+use Rattle.std.proofs.Common.{◌≡◌, true, false, List, [], ◌∷◌, codes, refl, inl, inr}
 use Rattle.clap.specs.Walk.{Text}
 use Rattle.clap.specs.declared.error.kind.ErrorKind.TheVariants.{ArgumentConflict, InvalidSubcommand, MissingRequiredArgument, MissingSubcommand, UnknownArgument, ValueValidation}
 use Rattle.clap.proofs.OnLiterals.{clap_on_literals}
 use Rattle.asm_explore_words.specs.CommandLine.{command, commands, random_command, run_command, show_command}
-use Rattle.asm_explore_words.specs.WordsSaid.{AskForHelp, task_refusals}
+use Rattle.asm_explore_words.specs.WordsSaid.{AskForHelp, form_asked, is_said, run_rows, show_rows, task_refusals}
+use Rattle.asm_explore_words.specs.declared.settings.ShowForm.TheVariants as form
 
 abbrev one : List Text
 one = codes "x.asm" ∷ []
@@ -54,6 +55,14 @@ drawn_choices = refl
 drawn_and_shown : task_refusals (codes "show" ∷ codes "--draw=7" ∷ codes "-" ∷ []) ≡ []
 unfolding show_command clap_on_literals
 drawn_and_shown = refl
+
+page_is_taken : task_refusals (codes "show" ∷ codes "--html" ∷ codes "--only" ∷ codes "f" ∷ one) ≡ []
+unfolding show_command clap_on_literals
+page_is_taken = refl
+
+json_is_taken : task_refusals (codes "show" ∷ codes "-" ∷ codes "--json" ∷ []) ≡ []
+unfolding show_command clap_on_literals
+json_is_taken = refl
 
 condition_beside_two_files : task_refusals (codes "all" ∷ codes "--dot" ∷ codes "g" ∷ codes "--quiet" ∷ codes "s" ∷ codes "--always-file" ∷ codes "f" ∷ codes "-" ∷ []) ≡ []
 unfolding command clap_on_literals
@@ -105,6 +114,18 @@ drawn_and_read_and_shown : task_refusals (codes "show" ∷ codes "--script" ∷ 
 unfolding show_command clap_on_literals
 drawn_and_read_and_shown = refl
 
+page_and_json : task_refusals (codes "show" ∷ codes "--json" ∷ codes "--html" ∷ one) ≡ ArgumentConflict ∷ []
+unfolding show_command clap_on_literals
+page_and_json = refl
+
+width_of_a_page : task_refusals (codes "show" ∷ codes "--html" ∷ codes "--width=100" ∷ one) ≡ ArgumentConflict ∷ []
+unfolding show_command clap_on_literals
+width_of_a_page = refl
+
+width_of_json : task_refusals (codes "show" ∷ codes "--width" ∷ codes "40" ∷ codes "--json" ∷ one) ≡ ArgumentConflict ∷ []
+unfolding show_command clap_on_literals
+width_of_json = refl
+
 clash_draws_nothing : task_refusals (codes "clash" ∷ codes "--draw" ∷ codes "7" ∷ one) ≡ UnknownArgument ∷ []
 unfolding run_command clap_on_literals
 clash_draws_nothing = refl
@@ -136,6 +157,28 @@ graph_over_condition = refl
 script_over_condition : task_refusals (codes "all" ∷ codes "--quiet" ∷ codes "f" ∷ codes "--always-file" ∷ codes "f" ∷ one) ≡ ArgumentConflict ∷ []
 unfolding command clap_on_literals
 script_over_condition = refl
+
+-- ---- what is said of a run
+
+steps_are_said : is_said (codes "steps") (run_rows true (codes "--steps=1000" ∷ one)) ≡ true
+unfolding run_command clap_on_literals
+steps_are_said = refl
+
+turns_are_not_said : is_said (codes "turns") (run_rows true (codes "--steps=1000" ∷ one)) ≡ false
+unfolding run_command clap_on_literals
+turns_are_not_said = refl
+
+turns_are_said_alone : is_said (codes "steps") (show_rows (codes "--turns" ∷ codes "9" ∷ one)) ≡ false
+unfolding show_command clap_on_literals
+turns_are_said_alone = refl
+
+page_of_a_run : form_asked (show_rows (codes "--html" ∷ one)) ≡ form.Page
+unfolding show_command clap_on_literals
+page_of_a_run = refl
+
+table_of_a_run : form_asked (show_rows one) ≡ form.Table
+unfolding show_command clap_on_literals
+table_of_a_run = refl
 
 -- ---- what is asked for
 

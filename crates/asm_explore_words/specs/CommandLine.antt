@@ -13,8 +13,8 @@
 --                                       script's file, for the seed by which choices are drawn if
 --                                       they may be, for conditions and for files of conditions
 --     show_command, show_refusals words
---                                       after `show`: the same as after `choices`, and an option for
---                                       names and for the width
+--                                       after `show`: the same as after `choices`, an option for
+--                                       names and for the width, and a flag for a page and for JSON
 --     commands, command_refusals words  all of them, one of which has to be named first. The kinds
 --                                       of what is wrong with words that name none
 use Rattle.std.specs.Prelude.{ℕ, Bool, false, true, List, [], ◌∷◌, Some, codes, cond}
@@ -156,6 +156,8 @@ show_command = record {
         ∷ repeated (option (codes "always-file"))
         ∷ repeated (option (codes "only"))
         ∷ number width_option
+        ∷ flag (codes "html")
+        ∷ flag (codes "json")
         ∷ [];
   };
   subs = [];

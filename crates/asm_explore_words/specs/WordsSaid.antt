@@ -8,7 +8,8 @@
 --                                   the same after `choices`, which may draw, and `clash`, which
 --                                   doesn't: the text and the script aren't both standard input, and
 --                                   choices aren't both read from a script and drawn
---     AreShowSaid words settings    the same after `show`
+--     AreShowSaid words settings    the same after `show`: a page and lines of JSON aren't both asked
+--                                   for, nor one of them and the width of a table's lines
 --     AreSaidBehind words task      the first word names the command, and the others give its
 --                                   settings
 --     all_refusals words            the kinds of what is wrong with the words after `all`
@@ -19,7 +20,7 @@
 --     AskForHelp kinds              words of these kinds ask for help or for the version
 --     IsRefusal kinds fault         words are refused by a fault of one of these kinds, or memory
 --                                   ran out
-use Rattle.std.specs.Prelude.{◌≡◌, ◌⊎◌, ℕ, Bool, true, false, not, ◌&&◌, ◌||◌, List, [], ◌∷◌, Option, Some, None, cond, option_map, codes, is_none, is_some, ⊤}
+use Rattle.std.specs.Prelude.{◌≡◌, ◌⊎◌, ℕ, Bool, true, false, not, ◌&&◌, ◌||◌, List, [], ◌∷◌, Option, Some, None, cond, option_and_then, option_map, codes, is_none, is_some, ⊤}
 use Rattle.std.specs.Option.{option_map_or}
 use Rattle.std.specs.Prelude.{find}
 use Rattle.std.specs.List.{list_any}
@@ -35,6 +36,8 @@ use Rattle.clap.specs.declared.error.Error.{Error}
 use Rattle.clap.specs.declared.error.kind.ErrorKind.TheVariants.{ArgumentConflict, DisplayHelp, DisplayVersion, OutOfMemory}
 use Rattle.clap.specs.declared.parser.matches.ArgMatches.{ArgMatches}
 use Rattle.clap.specs.declared.parser.matches.Found.{Found}
+use Rattle.clap.specs.declared.parser.matches.ValueSource.{ValueSource}
+use Rattle.clap.specs.declared.parser.matches.ValueSource.TheVariants.{CommandLine, DefaultValue}
 use Rattle.asm_limits.specs.Limits.{NumberOption, are_within, turns_option, workers_option}
 use Rattle.asm_arguments.specs.Numbers.{AreNumbers, HaveNumbers}
 use Rattle.asm_explore_words.specs.CommandLine.{command, command_refusals, most_unsigned, outcomes_option, refusals, random_command, random_refusals, run_command, run_refusals, runs_option, show_command, show_refusals, states_option, steps_or_else, width_option}
@@ -44,6 +47,8 @@ use Rattle.asm_explore_words.specs.declared.settings.RandomSettings.{RandomSetti
 use Rattle.asm_explore_words.specs.declared.settings.RunQuestion.{RunQuestion}
 use Rattle.asm_explore_words.specs.declared.settings.RunSettings.{RunSettings}
 use Rattle.asm_explore_words.specs.declared.settings.Settings.{Settings}
+use Rattle.asm_explore_words.specs.declared.settings.ShowForm.{ShowForm}
+use Rattle.asm_explore_words.specs.declared.settings.ShowForm.TheVariants as form
 use Rattle.asm_explore_words.specs.declared.settings.ShowSettings.{ShowSettings}
 use Rattle.asm_explore_words.specs.declared.settings.Task.{Task}
 use Rattle.asm_explore_words.specs.declared.settings.Task.TheVariants.{All, Random, Choices, Clash, Show}
@@ -165,6 +170,15 @@ abbrev pub is_yes : Option Text → Bool
 is_yes None = false
 is_yes (Some text) = bytes_eq text (codes "true")
 
+-- the argument is among the words; a default is not
+abbrev pub is_of_words : Option ValueSource → Bool
+is_of_words None = false
+is_of_words (Some DefaultValue) = false
+is_of_words (Some CommandLine) = true
+
+abbrev pub is_said : Text → List Row → Bool
+is_said name rows = is_of_words (option_and_then (λ row. row.source) (find (λ row. bytes_eq row.id name) rows))
+
 -- ---- settings
 
 pub record AreRead (rows : List Row) (settings : Settings) : Type 0 where
@@ -247,6 +261,8 @@ pub record AreRunRead (draws : Bool) (rows : List Row) (settings : RunSettings) 
   pub numbers : AreNumbers rows (run_numbers_of settings)
   pub script : option_map (λ text. text.now) settings.script ≡ first_of (codes "script") rows
   pub draw : IsSeedOf draws rows settings.draw
+  pub steps_said : settings.steps_said ≡ is_said (codes "steps") rows
+  pub turns_said : settings.turns_said ≡ is_said (codes "turns") rows
 
 pub record IsQuestionRead (draws : Bool) (rows : List Row) (question : RunQuestion) : Type 0 where
   pub run : AreRunRead draws rows question.run
@@ -285,17 +301,37 @@ AreRunTaken draws words = (run_refusals draws words ≡ []) × (is_run_at_odds d
 abbrev pub AreRunSaid : (draws : Bool) → List Text → RunQuestion → Type 0
 AreRunSaid draws words question = AreRunTaken draws words × IsQuestionRead draws (run_rows draws words) question
 
+-- a page, or lines of JSON, are asked for
+abbrev pub is_page_asked : List Row → Bool
+is_page_asked rows = is_yes (first_of (codes "html") rows)
+
+abbrev pub is_json_asked : List Row → Bool
+is_json_asked rows = is_yes (first_of (codes "json") rows)
+
+abbrev pub form_asked : List Row → ShowForm
+form_asked rows = cond (is_page_asked rows) form.Page (cond (is_json_asked rows) form.Json form.Table)
+
+-- both are asked for, or one of them and a width, which is only of a table
+abbrev pub are_two_forms : List Row → Bool
+are_two_forms rows = (is_page_asked rows && is_json_asked rows) || ((is_page_asked rows || is_json_asked rows) && is_said (codes "width") rows)
+
+abbrev pub are_show_at_odds : List Row → Bool
+are_show_at_odds rows = is_run_at_odds true rows || are_two_forms rows
+
 pub record AreShowRead (rows : List Row) (settings : ShowSettings) : Type 0 where
   pub spec : first_of (codes "spec") rows ≡ Some settings.run.spec.now
   pub numbers : AreNumbers rows (show_numbers_of settings)
   pub script : option_map (λ text. text.now) settings.run.script ≡ first_of (codes "script") rows
   pub draw : MayBeUnsigned rows (codes "draw") settings.run.draw
+  pub steps_said : settings.run.steps_said ≡ is_said (codes "steps") rows
+  pub turns_said : settings.run.turns_said ≡ is_said (codes "turns") rows
   pub always : texts settings.always.items ≡ all_of (codes "always") rows
   pub always_files : texts settings.always_files.items ≡ all_of (codes "always-file") rows
   pub names : texts settings.names.items ≡ all_of (codes "only") rows
+  pub form : settings.form ≡ form_asked rows
 
 abbrev pub IsShowTaken : List Text → Type 0
-IsShowTaken words = (show_refusals words ≡ []) × (is_run_at_odds true (show_rows words) ≡ false)
+IsShowTaken words = (show_refusals words ≡ []) × (are_show_at_odds (show_rows words) ≡ false)
 
 abbrev pub AreShowSaid : List Text → ShowSettings → Type 0
 AreShowSaid words settings = IsShowTaken words × AreShowRead (show_rows words) settings
@@ -313,8 +349,11 @@ abbrev pub one_run_refusals : (draws : Bool) → List Text → Kinds
 one_run_refusals draws words =
     kinds.or_else (run_refusals draws words) (cond (is_run_at_odds draws (run_rows draws words)) (ArgumentConflict ∷ []) [])
 
+abbrev pub show_odds : List Row → Kinds
+show_odds rows = cond (are_show_at_odds rows) (ArgumentConflict ∷ []) []
+
 abbrev pub all_show_refusals : List Text → Kinds
-all_show_refusals words = kinds.or_else (show_refusals words) (cond (is_run_at_odds true (show_rows words)) (ArgumentConflict ∷ []) [])
+all_show_refusals words = kinds.or_else (show_refusals words) (show_odds (show_rows words))
 
 abbrev pub IsFaultOf : Error → WordFault → Type 0
 IsFaultOf error Memory = kind_of error ≡ OutOfMemory

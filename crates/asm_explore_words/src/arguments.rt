@@ -5,8 +5,9 @@ ghost use Rattle.clap.specs.Walk.{texts};
 ghost use Rattle.clap.specs.Words.{first_value, found_of, rule_of, rows_of};
 ghost use Rattle.asm_arguments.specs.Arguments as arguments;
 ghost use Rattle.asm_explore_words.specs.CommandLine as line;
-ghost use Rattle.asm_explore_words.specs.WordsSaid.{HasUnsigned, MayBeUnsigned, MayHaveUnsigned, all_of, is_yes};
+ghost use Rattle.asm_explore_words.specs.WordsSaid.{HasUnsigned, MayBeUnsigned, MayHaveUnsigned, all_of, is_said, is_yes};
 
+use clap::parser::ValueSource;
 use clap::{Arg, ArgAction, ArgMatches};
 use std::alloc::{AllocError, Global};
 
@@ -73,6 +74,17 @@ pub(crate) fn is_set(given: &ArgMatches<'_>, name: &str) -> bool
 {
     match given.get_str(name) {
         Some(text) => text == "true",
+        None => false,
+    }
+}
+
+/// Whether an option is among the words, rather than its default alone.
+pub(crate) fn is_said(given: &ArgMatches<'_>, name: &str) -> bool
+    ensures { result ≡ is_said name.now (rows_of (found_of given.now)) }
+{
+    match given.value_source(name) {
+        Some(ValueSource::CommandLine) => true,
+        Some(ValueSource::DefaultValue) => false,
         None => false,
     }
 }

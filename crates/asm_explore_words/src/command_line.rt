@@ -10,10 +10,10 @@ ghost use Rattle.asm_explore_words.specs.CommandLine as line;
 ghost use Rattle.asm_explore_words.specs.CommandLine.{command_refusals, named, random_refusals, refusals, run_refusals};
 ghost use Rattle.asm_explore_words.specs.WordsSaid.{AreParsed, AreRead, AreRunParsed, AreRunSaid, AreSaidBehind, IsQuestionRead, IsRefusal, IsSeedOf, MayHaveUnsigned, all_refusals, all_rows, are_in_range, are_run_in_range, is_task_in_range, number_options, one_run_refusals, run_number_options, run_rows, task_refusals};
 
-use crate::arguments::{is_set, texts_of, unsigned_if};
+use crate::arguments::{is_said, is_set, texts_of, unsigned_if};
 use crate::commands::{Argument, described, with_arguments};
 use crate::help;
-use crate::number_options::{OUTCOMES, RUN_STEPS, STATES, STEPS, TURNS, WORKERS};
+use crate::number_options::{OUTCOMES, RUN_STEPS, RUN_TURNS, STATES, STEPS, TURNS, WORKERS};
 use crate::random_words::{random, random_settings};
 use crate::settings::{RunQuestion, RunSettings, Settings, Task, WordFault, at_odds, run_at_odds};
 use crate::show_words::{show, show_settings};
@@ -91,7 +91,7 @@ const CLASH_COMMAND: RunCommand = RunCommand {
 static CHOICES_ARGUMENTS: [Argument; 7] = [
     Argument::Specification,
     Argument::Number(RUN_STEPS),
-    Argument::Number(TURNS),
+    Argument::Number(RUN_TURNS),
     SCRIPT,
     Argument::Draw,
     ALWAYS,
@@ -102,7 +102,7 @@ static CHOICES_ARGUMENTS: [Argument; 7] = [
 static CLASH_ARGUMENTS: [Argument; 6] = [
     Argument::Specification,
     Argument::Number(RUN_STEPS),
-    Argument::Number(TURNS),
+    Argument::Number(RUN_TURNS),
     SCRIPT,
     ALWAYS,
     ALWAYS_FILE,
@@ -299,9 +299,11 @@ fn run_read<'w>(
         run: RunSettings {
             spec: given.get_str("spec").unwrap(),
             steps: number_of(given, RUN_STEPS),
-            turns: number_of(given, TURNS),
+            turns: number_of(given, RUN_TURNS),
             script: given.get_str("script"),
             draw: seed_of(given, draws),
+            steps_said: is_said(given, "steps"),
+            turns_said: is_said(given, "turns"),
         },
         always: texts_of(alloc, given, "always")?,
         always_files: texts_of(alloc, given, "always-file")?,

@@ -31,6 +31,16 @@ pub const SCRIPT_AND_DRAW: &str = "the choices can't both be read from a script 
 pub const ONLY: &str =
     "Show this function, or this location as in `age(2)`; may be repeated [without it: all that change]";
 
+pub const HTML: &str = "Show the run as a page of HTML";
+
+pub const JSON: &str = "Show the run as lines of JSON: one for each row, and one for its end";
+
+pub const PAGE_AND_JSON: &str =
+    "the run can't be shown both as a page of HTML and as lines of JSON";
+
+pub const WIDTH_WITHOUT_TABLE: &str =
+    "--width is for a table, and a page of HTML and lines of JSON have no width";
+
 pub const ONE_INPUT: &str = "the specification and the script can't both be standard input";
 
 pub const ALWAYS: &str =
@@ -95,6 +105,10 @@ are left out.
 the location at which it fails: line and column, place (its path), location and value, and the names
 that are bound there with their values, the innermost first.
 
+Reports have a comment `# asm --steps N --script THIS`, with `--turns M` behind it if M isn't 1000.
+Without --steps the run has N steps by the last such line of the script, and M turns, unless --turns
+says how many. If there is no such line, both are 1000.
+
 Status:
   0  the run made all its steps; or help or the version was asked for
   1  the run ended early: clash, outside or exhausted; or a condition isn't true
@@ -119,6 +133,12 @@ the locations, a dot for a value that is as in the row before, and a hyphen for 
 fails, its row has no values, and below the table stand the assignments by which it does, as `clash`
 shows them. Without --only each location is shown that changes in the run, 200 of them at most. The
 script has a line for each choice that isn't the first candidate.
+
+With --html the output is a page of HTML in place of the script, and with --json lines of JSON.
+
+Reports have a comment `# asm --steps N --script THIS`, with `--turns M` behind it if M isn't 1000.
+Without --steps the run has N steps by the last such line of the script, and M turns, unless --turns
+says how many. If there is no such line, both are 1000.
 
 Status:
   0  the run made all its steps; or help or the version was asked for

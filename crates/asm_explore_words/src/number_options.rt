@@ -19,12 +19,19 @@ pub(crate) const RANDOM_STEPS: NumberOption = NumberOption {
 /// Of `RunSettings::steps`.
 pub(crate) const RUN_STEPS: NumberOption = NumberOption {
     default: Some("1000"),
+    help: "Make at most N steps, else as many as the script says: 0 to 1000000",
     ..run_limits::STEPS
 };
 
-/// Of the turns of all settings.
+/// Of `Settings::turns` and `RandomSettings::turns`.
 pub(crate) const TURNS: NumberOption = NumberOption {
     help: "An iterate or while that would go on after N turns is a fault: 1 to 1000000",
+    ..run_limits::TURNS
+};
+
+/// Of `RunSettings::turns`.
+pub(crate) const RUN_TURNS: NumberOption = NumberOption {
+    help: "An iterate or while that goes on after N turns is a fault (see below): 1 to 1000000",
     ..run_limits::TURNS
 };
 

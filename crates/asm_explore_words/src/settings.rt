@@ -115,6 +115,21 @@ pub struct RunSettings<'w> {
     /// At each `choose` is drawn what this seed gives, as in run 0 of `random --seed`; if there is
     /// none, nothing is drawn.
     pub draw: Option<u64>,
+    /// Whether the words say how many steps; if they don't, the script may.
+    pub steps_said: bool,
+    /// Whether they say how many turns.
+    pub turns_said: bool,
+}
+
+/// How a run is shown.
+#[derive(Clone, Copy, Debug, PartialEq, Eq)]
+pub enum ShowForm {
+    /// As a table, among the comments of a script.
+    Table,
+    /// As a page of HTML.
+    Page,
+    /// As lines of JSON, one for each row.
+    Json,
 }
 
 /// What the words after `show` ask for.
@@ -128,8 +143,10 @@ pub struct ShowSettings<'w> {
     pub always_files: Vec<&'w str>,
     /// The functions and locations that are shown; if there are none, each location that changes.
     pub names: Vec<&'w str>,
-    /// A line has at most this many bytes, unless one column alone is wider.
+    /// A line of a table has at most this many bytes, unless one column alone is wider.
     pub width: u32,
+    /// How the run is shown.
+    pub form: ShowForm,
 }
 
 /// Why words ask for nothing that can be done.

@@ -65,6 +65,18 @@ pub(crate) const ONLY: Argument = Argument::Texts {
     help: help::ONLY,
 };
 
+/// Of `ShowSettings::form`, a page of HTML.
+pub(crate) const HTML: Argument = Argument::Flag {
+    name: "html",
+    help: help::HTML,
+};
+
+/// Of `ShowSettings::form`, lines of JSON.
+pub(crate) const JSON: Argument = Argument::Flag {
+    name: "json",
+    help: help::JSON,
+};
+
 /// Of `Settings::trace`.
 pub(crate) const TRACE: Argument = Argument::Flag {
     name: "trace",

@@ -36,7 +36,7 @@ returns-in_err-end-clause-explained g c =
     let p = err_from_is_err_and c.from_residual-in_err-end.result c.from_residual-in_err-end.ensures.1 in
     let found = c.in_ok-broken.ensures.found in
     let tree = spec_of c.args.checked.now.spec in
-    let is : IsWithoutRefusal c.args.text.now c.args.script_text.now c.args.conditions.now c.args.settings.now = record {
+    let is : IsWithoutRefusal c.args.text.now c.args.script_text.now c.args.conditions.now c.args.run.now c.args.settings.now = record {
       tree = tree;
       accepted = c.requires.accepted;
       script = c.in_ok-script.script;
@@ -46,4 +46,4 @@ returns-in_err-end-clause-explained g c =
       known = subst (λ (ns : List (Bor (List ℕ))). All (λ name. is_known tree name ≡ true) (map (λ n. n.now) ns)) c.as_slice.ensures.value
           (subst (λ (o : Option (Bor (List ℕ))). IfNone o (All (λ name. is_known tree name ≡ true) (map (λ n. n.now) c.as_slice.result.now))) c.in-None.is c.in_ok-name.ensures.none);
     } in
-    rw (p.1, p.2) (of_shown c.args.text.now c.args.script_text.now c.args.conditions.now c.args.settings.now c.in_err-end.field-0.0 is)
+    rw (p.1, p.2) (of_shown c.args.text.now c.args.script_text.now c.args.conditions.now c.args.run.now c.args.settings.now c.in_err-end.field-0.0 is)

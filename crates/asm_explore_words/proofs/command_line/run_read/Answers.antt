@@ -13,6 +13,8 @@ returns-clause-read c =
         numbers = (c.number_of.ensures.said, (c.number_of-2.ensures.said, tt));
         script = c.get_str-2.ensures ∙ sym (first_of_rows f (codes "script"));
         draw = c.seed_of.ensures;
+        steps_said = c.is_said.ensures;
+        turns_said = c.is_said-2.ensures;
       };
       always = c.in_ok-texts_of.ensures;
       always_files = c.in_ok-texts_of-2.ensures;

@@ -12,7 +12,10 @@ returns-clause-read c =
       numbers = (c.number_of.ensures.said, (c.number_of-2.ensures.said, (c.number_of-3.ensures.said, tt)));
       script = c.get_str-2.ensures ∙ sym (first_of_rows f (codes "script"));
       draw = c.unsigned_if.ensures;
+      steps_said = c.is_said.ensures;
+      turns_said = c.is_said-2.ensures;
       always = c.in_ok-texts_of.ensures;
       always_files = c.in_ok-texts_of-2.ensures;
       names = c.in_ok-texts_of-3.ensures;
+      form = c.form_of.ensures;
     }

@@ -1,4 +1,4 @@
-use Rattle.std.proofs.Common.{◌≡◌, ◌∙◌, ◌∷◌, ◌++◌, [], List, ap, sym, subst}
+use Rattle.std.proofs.Common.{◌∙◌, ◌∷◌, ◌++◌, [], ap}
 use Rattle.asm_explore_texts.specs.code.TextPlaces.{elements_said}
 use Rattle.asm_explore_texts.proofs.RuleNumbers.{one_more}
 use Rattle.asm_explore_texts.proofs.rule_in_text.PlaceInText.element.Goals as goal
