@@ -5,9 +5,10 @@
 --     behind_elements, no_elements    what stands behind them
 --     asked_more, asked_count      choices of which a label tells
 --     edges_more, all_more         the edges of one edge more, and of one step more
+--     lines_drawn                  the lines of edges as the code draws them
 use Rattle.std.proofs.Common.{◌≡◌, ◌∙◌, ℕ, zero, suc, ◌+◌, ◌<◌, ◌&&◌, false, cond, nat_eq, Some, None, List, [], ◌∷◌, ◌++◌, length, map, min, take, get_or, codes, refl, sym, ap, append_assoc, append-nil, arith}
 use Rattle.std.specs.Cmp.Lexicographic.{pointwise}
-use Rattle.std.specs.List.{enumerate_from, join_by}
+use Rattle.std.specs.List.{enumerate_from, flat_map, join_by}
 use Rattle.std.proofs.lemmas.List.{length-map, length-take-le, map-append}
 use Rattle.asm_state.specs.declared.value.Value.{Value}
 use Rattle.asm_reader.specs.ScriptLines.{exact_choice}
@@ -21,6 +22,10 @@ use Rattle.asm_explore.specs.declared.choices.choice_point.ChoicePoint.{ChoicePo
 use Rattle.asm_explore.specs.declared.outcomes.listed_outcome.Choice.{Choice}
 use Rattle.asm_graph.specs.Arrows.{DrawnEdge, all_edges, drawn_from, edges_in, edges_of, elements_text, given_text}
 use Rattle.asm_explore_texts.specs.code.TextPlaces.{elements_said}
+use Rattle.asm_graph.specs.Dot.{arrow_line, end_name, node_name, quoted, red_mark}
+use Rattle.asm_graph.specs.Graphs.{Pairs}
+use Rattle.asm_graph.specs.code.DrawnArrows.{IsArrow, drawn_line}
+use Rattle.asm_graph.specs.declared.arrow.Arrow.{Arrow}
 use Rattle.asm_graph.specs.declared.graph.Edge.{Edge}
 use Rattle.asm_graph.specs.declared.graph.Node.{Node}
 use Rattle.asm_graph.specs.declared.graph.Step.{Step}
@@ -122,3 +127,16 @@ all_more nodes steps i n step low paired is_node is_step =
     sym (ap (λ ns. all_edges 0 ns (take (i + 1) steps)) (one_more nodes i n low is_node)
     ∙ ap (all_edges 0 (take i nodes ++ n ∷ [])) (one_more steps i step (omega (arith, low, paired)) is_step)
     ∙ edges_behind 0 (take i nodes) (take i steps) n step same ∙ ap (λ j. all_edges 0 (take i nodes) (take i steps) ++ edges_of j n step) (omega (arith, count)))
+
+-- ---- lines
+
+module _ (s : Spec) (turns : ℕ) (path : List (ℕ × ℕ)) where
+  line_drawn : (drawn : DrawnEdge) (arrow : Arrow) → IsArrow s turns path drawn arrow → drawn_line arrow ≡ arrow_line s turns path drawn
+  line_drawn drawn arrow is = λ j.
+      codes "  " ++ (node_name (is.from j) ++ (codes " -> " ++ (end_name (is.to j) ++ (codes " [label=" ++ (quoted (is.label j) ++ (red_mark (is.red j) ++ codes "];\n"))))))
+
+  pub lines_drawn : (edges : List DrawnEdge) (arrows : List Arrow) → Pairs (IsArrow s turns path) edges arrows → flat_map drawn_line arrows ≡ flat_map (arrow_line s turns path) edges
+  lines_drawn [] [] are = refl
+  lines_drawn [] (arrow ∷ arrows) are = absurd are
+  lines_drawn (drawn ∷ edges) [] are = absurd are
+  lines_drawn (drawn ∷ edges) (arrow ∷ arrows) are = λ j. line_drawn drawn arrow are.0 j ++ lines_drawn edges arrows are.1 j

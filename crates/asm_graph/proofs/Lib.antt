@@ -1,6 +1,7 @@
 pub mod Paired
 pub mod MoreNodes
 pub mod FoundNodes
+pub mod OwnChoices
 pub mod Outcomes
 pub mod RunsAlongChoices
 pub mod LeastDepths
@@ -12,6 +13,7 @@ pub mod Texts
 pub mod DrawnArrows
 pub mod WayLemmas
 pub mod WalkLemmas
+pub mod TakenWays
 pub mod ShownContents
 pub mod ShownMarks
 pub mod NodeNames

@@ -134,7 +134,7 @@ module _ (old more new : List Node) (is : new ≡ old ++ more) where
 
     module _ (specification : Specification) (turns : ℕ) (A : State) where
       edge_more : (e : Edge) → IsEdge shape specification turns old A e → IsEdge shape specification turns new A e
-      edge_more e h = record { apart = h.apart; goes = λ s taken. goes_more A (steps_from specification turns A s) e.to (h.goes s taken) }
+      edge_more e h = record { apart = h.apart; own = h.own; goes = λ s taken. goes_more A (steps_from specification turns A s) e.to (h.goes s taken) }
 
       edges_more : (es : List Edge) → AreEdges shape specification turns old A es → AreEdges shape specification turns new A es
       edges_more es h = record {
@@ -151,5 +151,6 @@ module _ (old more new : List Node) (is : new ≡ old ++ more) where
     shown_more specification turns within crowds steps n (step.Edges es) h = (h.0, h.1, edges_more specification turns (state_at shape n) es.items h.2)
 
     -- an edge that follows an outcome
-    pub followed_more : (A : State) (depth : ℕ) (f : ListedOutcome) (e : Edge) → IsFollowed shape old A depth f e → IsFollowed shape new A depth f e
-    followed_more A depth f e h = record { choices = h.choices; goes = λ r shows. goes_more A r e.to (h.goes r shows); near = near_more depth e.to h.near }
+    pub followed_more : (specification : Specification) (turns : ℕ) (A : State) (depth : ℕ) (f : ListedOutcome) (e : Edge)
+        → IsFollowed shape specification turns old A depth f e → IsFollowed shape specification turns new A depth f e
+    followed_more specification turns A depth f e h = record { choices = h.choices; goes = λ r shows. goes_more A r e.to (h.goes r shows); near = near_more depth e.to h.near }

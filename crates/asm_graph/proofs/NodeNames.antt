@@ -1,7 +1,7 @@
 -- Free. What a node writes of a location is a name of it.
 --     same_value, same_values, same_location    texts in nodes are those of traces
 --     named_law      so a location is named by its text in a node
-use Rattle.std.proofs.Common.{◌≡◌, ◌∙◌, ℕ, Bool, true, false, List, [], ◌∷◌, ◌++◌, refl, sym, ap, append_assoc, append-nil}
+use Rattle.std.proofs.Common.{◌≡◌, ◌∙◌, true, false, List, [], ◌∷◌, ◌++◌, refl, ap, append_assoc, append-nil}
 use Rattle.std.specs.Prelude.{codes}
 use Rattle.std.specs.List.{flat_map, join_by, list_any}
 use Rattle.std.specs.Str.{bytes_eq}
@@ -13,8 +13,7 @@ use Rattle.asm_state.specs.declared.value.Value.TheVariants.{Undef, Truth, Numbe
 use Rattle.asm_syntax.specs.SourceTree.{Spec}
 use Rattle.asm_run.specs.Trace as trace
 use Rattle.asm_run.specs.Written.{names_in}
-use Rattle.asm_explore_table.specs.Tables.{is_named}
-use Rattle.asm_graph.specs.Labels.{NamedLaw, arguments_text, function_text, location_text, value_text}
+use Rattle.asm_graph.specs.Labels.{NamedLaw, function_text, location_text, value_text}
 
 module _ (s : Spec) where
   same_value : (v : Value) → value_text s v ≡ trace.value_text (names_in s).elements v

@@ -15,6 +15,7 @@ use Rattle.asm_state.specs.Updates.{UpdateSet, Fault, IsConsistent, IsFirstFault
 use Rattle.asm_updates.specs.code.Stands.{Stands}
 use Rattle.asm_reader.specs.ExactLines.{exactly}
 use Rattle.asm_meaning.specs.Run.{Specification}
+use Rattle.asm_meaning.specs.StoryLaws.{AreToldOutcomes}
 use Rattle.asm_meaning.specs.Yields.{Path, Result, Gives, Exhausted}
 use Rattle.asm_explore.specs.declared.outcomes.listed_outcome.RuleResult.TheVariants as answer
 use Rattle.asm_explore.specs.declared.outcomes.listed_outcome.Choice.{Choice}
@@ -24,6 +25,7 @@ use Rattle.asm_explore.specs.code.OutcomeLists.{Situation, AreTaken, Each, IsCou
 use Rattle.asm_explore.specs.code.ChoicePaths.{HaveOwnPaths}
 use Rattle.asm_explore.specs.code.ReachedStates.{LeadBetween, MakesAll, steps_from}
 use Rattle.asm_explore.specs.ChoiceLines.{lines_of}
+use Rattle.asm_explore.specs.RunChoices.{chosen_from}
 use Rattle.asm_explore.specs.Search.{LeadsOn}
 use Rattle.asm_explore.specs.code.StepOutcomes.{IsStep}
 use Rattle.asm_graph.specs.declared.graph.Edge.{Edge}
@@ -31,8 +33,9 @@ use Rattle.asm_graph.specs.declared.graph.EdgeEnd.TheVariants as target
 use Rattle.asm_graph.specs.declared.graph.Node.{Node}
 use Rattle.asm_graph.specs.declared.graph.StepFault.{StepFault}
 use Rattle.asm_graph.specs.declared.graph.StepFault.TheVariants as kind
-use Rattle.asm_graph.specs.Graphs.{AreEdges, GoesTo, HasFault, IsEdge, IsKind, Pairs, StandsAt}
+use Rattle.asm_graph.specs.Graphs.{AreEdges, GoesTo, HasFault, IsEdge, IsKind, Pairs, StandsAt, along}
 use Rattle.asm_graph.specs.code.GraphSoFar.{AreShallow, FailsSo, HasContents, IsFollowed, IsLed, IsNear, IsOutcome, Leads}
+use Rattle.asm_graph.proofs.OwnChoices.{AreMakingLaws, IsScriptLaw, chosen_along, chosen_apart, taken_along, yields_again}
 use Rattle.asm_graph.proofs.Paired.{each_got, pairs_any, pairs_each}
 
 -- ---- one outcome
@@ -117,24 +120,37 @@ module _ (shape : Shape) (specification : Specification) (turns : ℕ) (A : Stat
     apart = each_got (λ (f : ListedOutcome). HaveOwnPaths f.choices) outcomes k one step.apart there;
   }
 
-  module _ (nodes : List Node) (depth : ℕ) (edges : List Edge) (follow : Pairs (IsFollowed shape nodes A depth) outcomes edges) where
-    pub edges_are : AreEdges shape specification turns nodes A edges
-    edges_are = record {
-      each = pairs_each (IsFollowed shape nodes A depth) (λ (f : ListedOutcome). HaveOwnPaths f.choices × IsSound shape (steps_from specification turns A) f) (IsEdge shape specification turns nodes A)
-          (λ f e followed fine. record {
-            apart = subst HaveOwnPaths (sym followed.choices) fine.0;
-            goes = λ s taken. followed.goes (steps_from specification turns A s) (fine.1 s (subst (AreTaken s) followed.choices taken));
-          }) outcomes edges follow (both outcomes step.apart step.lists.sound);
+  module _ (nodes : List Node) (depth : ℕ) (edges : List Edge) (follow : Pairs (IsFollowed shape specification turns nodes A depth) outcomes edges) where
+    abbrev Follows : ListedOutcome → Edge → Type 0
+    Follows f e = IsFollowed shape specification turns nodes A depth f e
+
+    abbrev Fine : ListedOutcome → Type 0
+    Fine f = HaveOwnPaths f.choices × IsSound shape (steps_from specification turns A) f
+
+    -- the step along an outcome has its result, and so has each that takes the choices which it makes
+    edge_is : IsScriptLaw → AreMakingLaws → AreToldOutcomes → (f : ListedOutcome) (e : Edge) → Follows f e → Fine f → IsEdge shape specification turns nodes A e
+    edge_is makes making told f e followed fine =
+        let s = along f.choices in
+        let shows = fine.1 s (taken_along makes f.choices fine.0) in
+        record {
+          apart = subst HaveOwnPaths (sym followed.choices) (chosen_apart making specification turns A s);
+          own = followed.choices ∙ sym (chosen_along making specification turns A makes s) ∙ ap (λ cs. chosen_from specification turns A (along cs)) (sym followed.choices);
+          goes = λ t taken.
+              let again = yields_again making specification turns A s t (subst (AreTaken t) followed.choices taken) told in
+              followed.goes (steps_from specification turns A t) (subst (Shows shape f.answer) (sym again) shows);
+        }
+
+    pub edges_are : IsScriptLaw → AreMakingLaws → AreToldOutcomes → AreEdges shape specification turns nodes A edges
+    edges_are makes making told = record {
+      each = pairs_each Follows Fine (IsEdge shape specification turns nodes A) (edge_is makes making told) outcomes edges follow (both outcomes step.apart step.lists.sound);
       all = λ s.
           let r = steps_from specification turns A s in
-          pairs_any (IsFollowed shape nodes A depth) (λ (f : ListedOutcome). Shows shape f.answer r) (λ (e : Edge). GoesTo shape nodes A r e.to) (λ f e followed shows. followed.goes r shows) outcomes edges follow
-          (step.lists.complete s);
+          pairs_any Follows (λ (f : ListedOutcome). Shows shape f.answer r) (λ (e : Edge). GoesTo shape nodes A r e.to) (λ f e followed shows. followed.goes r shows) outcomes edges follow (step.lists.complete s);
     }
       where
-        both : (fs : List ListedOutcome) → Each (λ (f : ListedOutcome). HaveOwnPaths f.choices) fs → Each (IsSound shape (steps_from specification turns A)) fs
-            → Each (λ (f : ListedOutcome). HaveOwnPaths f.choices × IsSound shape (steps_from specification turns A) f) fs
+        both : (fs : List ListedOutcome) → Each (λ (f : ListedOutcome). HaveOwnPaths f.choices) fs → Each (IsSound shape (steps_from specification turns A)) fs → Each Fine fs
         both [] h g = tt
         both (f ∷ fs) h g = ((h.0, g.0), both fs h.1 g.1)
 
     pub edges_near : Each (λ (e : Edge). IsNear nodes depth e.to) edges
-    edges_near = pairs_each (IsFollowed shape nodes A depth) (λ (f : ListedOutcome). HaveOwnPaths f.choices) (λ (e : Edge). IsNear nodes depth e.to) (λ f e followed fine. followed.near) outcomes edges follow step.apart
+    edges_near = pairs_each Follows (λ (f : ListedOutcome). HaveOwnPaths f.choices) (λ (e : Edge). IsNear nodes depth e.to) (λ f e followed fine. followed.near) outcomes edges follow step.apart

@@ -2,7 +2,7 @@
 --     mark_at          the mark of a location says whether it is shown
 --     marks_count      there is one for each
 --     line_of, no_line    the lines of a location, by its mark
-use Rattle.std.proofs.Common.{◌≡◌, ◌<◌, ◌∙◌, ℕ, Bool, true, false, List, [], ap, arith, get_or, length, sym}
+use Rattle.std.proofs.Common.{◌≡◌, ◌<◌, ◌∙◌, ℕ, Bool, true, false, List, [], ap, arith, get_or, length}
 use Rattle.std.specs.Prelude.{cond}
 use Rattle.std.proofs.lemmas.List.FromFn.{get_or-map-range_with_len, length-map-range_with_len}
 use Rattle.asm_state.specs.Location.{Location, State}

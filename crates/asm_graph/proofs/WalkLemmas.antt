@@ -1,5 +1,5 @@
 -- Free. The edges that a run takes, and those that are marked.
---     walk_ends, walk_ends_at, walk_goes_on     how a walk goes on from a node
+--     walk_ends, walk_takes, walk_ends_at, walk_goes_on    how a walk goes on from a node
 --     walk_here                   an edge that is taken
 --     Marked whole rest marks     the edges of the whole that aren't marked are those of the rest
 --     found_within                what is found in a list is there
@@ -29,7 +29,7 @@ module _ (steps : List Step) (script : Script) where
   pub walk_ends : (left number i : ℕ) → taken_edge steps (record { script = script; step = number }) i ≡ None → walk steps script (suc left) number i ≡ []
   walk_ends left number i none = ap (λ o. edge_then i (edges_at steps i) o (λ j. walk steps script left (suc number) j)) none
 
-  walk_takes : (left number i k : ℕ) (e : Edge) → taken_edge steps (record { script = script; step = number }) i ≡ Some k → slice_get (edges_at steps i) k ≡ Some e
+  pub walk_takes : (left number i k : ℕ) (e : Edge) → taken_edge steps (record { script = script; step = number }) i ≡ Some k → slice_get (edges_at steps i) k ≡ Some e
       → walk steps script (suc left) number i ≡ (i, k) ∷ node_then e.to (λ j. walk steps script left (suc number) j)
   walk_takes left number i k e taken is =
       ap (λ o. edge_then i (edges_at steps i) o (λ j. walk steps script left (suc number) j)) taken

@@ -1,6 +1,4 @@
 -- Definition. The edges of a graph, as they are drawn.
---     along cs                 who takes the choices of an edge: a script with a line for each of
---                              them, and no other, in step 1
 --     asked_along A e          what is asked along an edge, in the step from its state
 --     taken asking             the candidate that is taken
 --     elements_text elements   elements of foralls, each behind the name of its variable
@@ -11,39 +9,30 @@
 --                              number of that
 --     edges_in, edges_of, all_edges    those of some edges, of a step, and of all steps from a
 --                              number on
---     IsArrow, AreArrows       each is drawn from its node to where it leads, with what is asked
---                              along it, and is red if it is one of these
+--     edge_label drawn         what is written at an edge: what is asked along it
 --     AlongLaw                 the step in which this is asked leads where the edge does
-use Rattle.std.specs.Prelude.{◌≡◌, ℕ, suc, List, [], ◌∷◌, ◌++◌, Option, None, Some, map, slice_index_or, codes}
+use Rattle.std.specs.Prelude.{ℕ, suc, List, [], ◌∷◌, ◌++◌, Option, None, Some, map, slice_index_or, codes}
 use Rattle.std.specs.List.{enumerate_from, join_by}
 use Rattle.asm_state.specs.Location.{State}
 use Rattle.asm_state.specs.Signature.{Shape}
 use Rattle.asm_state.specs.declared.value.Value.{Value}
 use Rattle.asm_state.specs.declared.value.Value.TheVariants.{Undef}
 use Rattle.asm_syntax.specs.SourceTree.{Name, Spec}
-use Rattle.asm_reader.specs.ExactLines.{exactly}
 use Rattle.asm_check.specs.Shapes.{shape_of}
 use Rattle.asm_meaning.specs.Declarations.{specification_of}
 use Rattle.asm_meaning.specs.Run.{Specification}
-use Rattle.asm_explore.specs.ChoiceLines.{lines_for}
 use Rattle.asm_explore.specs.ChoicePoints.{Asking}
 use Rattle.asm_explore.specs.RunChoices.{asked_from}
-use Rattle.asm_explore.specs.TakenChoices.{Situation, steps_from}
-use Rattle.asm_explore.specs.declared.outcomes.listed_outcome.Choice.{Choice}
+use Rattle.asm_explore.specs.TakenChoices.{steps_from}
 use Rattle.asm_explore_texts.specs.Places.{Place, place_at, variable_in}
-use Rattle.asm_graph.specs.Graphs.{GoesTo, IsEdge, Pairs, state_at}
+use Rattle.asm_graph.specs.Graphs.{GoesTo, IsEdge, along, state_at}
 use Rattle.asm_graph.specs.Labels.{value_text}
-use Rattle.asm_graph.specs.Paths.{is_among}
-use Rattle.asm_graph.specs.declared.arrow.Arrow.{Arrow}
 use Rattle.asm_graph.specs.declared.graph.Edge.{Edge}
 use Rattle.asm_graph.specs.declared.graph.Node.{Node}
 use Rattle.asm_graph.specs.declared.graph.Step.{Step}
 use Rattle.asm_graph.specs.declared.graph.Step.TheVariants as step
 
 -- ---- what is asked along an edge
-
-abbrev pub along : List Choice → Situation
-along cs = record { script = exactly (lines_for 1 cs); step = 1 }
 
 abbrev pub asked_along : Spec → (turns : ℕ) → State → Edge → List Asking
 asked_along s turns A e = asked_from (specification_of s) turns A (along e.choices.items)
@@ -110,13 +99,5 @@ all_edges i [] steps = []
 all_edges i (n ∷ nodes) [] = []
 all_edges i (n ∷ nodes) (step ∷ steps) = edges_of i n step ++ all_edges (suc i) nodes steps
 
--- the edges of this path are red
-module _ (s : Spec) (turns : ℕ) (path : List (ℕ × ℕ)) where
-  pub record IsArrow (drawn : DrawnEdge) (arrow : Arrow) : Type 0 where
-    pub from : arrow.from ≡ drawn.number
-    pub to : arrow.to ≡ drawn.edge.to
-    pub label : arrow.label.items ≡ label_text s (asked_along s turns (state_at (shape_of s) drawn.node) drawn.edge)
-    pub red : arrow.is_red ≡ is_among path drawn.number drawn.own
-
-  abbrev pub AreArrows : List Node → List Step → List Arrow → Type 0
-  AreArrows nodes steps arrows = Pairs IsArrow (all_edges 0 nodes steps) arrows
+abbrev pub edge_label : Spec → (turns : ℕ) → DrawnEdge → List ℕ
+edge_label s turns drawn = label_text s (asked_along s turns (state_at (shape_of s) drawn.node) drawn.edge)

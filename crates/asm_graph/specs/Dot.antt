@@ -10,17 +10,15 @@
 --                          run may rest in it, and grey if it is quiet, or dashed if no edges of it
 --                          are shown
 --     fault_line           the line of a kind of fault, if some edge has it
---     arrow_line arrow     the line of an edge as it is drawn: from which node it leads where, its
---                          label, and whether it is red
---     dot_of s names graph arrows    the whole text: the name of the specification, the nodes, the
---                          faults and the edges, and `}` in the last line
---     IsDotOf              such a text, with each edge of the graph as it is to be drawn, and those
---                          of a path red
+--     arrow_line path drawn    the line of an edge: from which node it leads where, its label, and
+--                          whether it is red: if it is one of a path
+--     dot_of s names graph lines    the whole text: the name of the specification, the nodes, the
+--                          faults and these lines, and `}` in the last line
+--     IsDotOf              such a text, with the lines of the edges
 use Rattle.std.specs.Prelude.{◌≡◌, ℕ, suc, Bool, true, false, not, ◌&&◌, ◌||◌, ◌==◌, if◌then◌else◌, List, [], ◌∷◌, ◌++◌, codes, decimal, encode_utf8}
 use Rattle.std.specs.List.{flat_map, list_all, list_any}
 use Rattle.asm_syntax.specs.SourceTree.{Spec}
 use Rattle.asm_check.specs.Shapes.{shape_of}
-use Rattle.asm_graph.specs.declared.arrow.Arrow.{Arrow}
 use Rattle.asm_graph.specs.declared.graph.Edge.{Edge}
 use Rattle.asm_graph.specs.declared.graph.EdgeEnd.{EdgeEnd}
 use Rattle.asm_graph.specs.declared.graph.EdgeEnd.TheVariants as target
@@ -31,8 +29,9 @@ use Rattle.asm_graph.specs.declared.graph.Step.TheVariants as step
 use Rattle.asm_graph.specs.declared.graph.StepFault.{StepFault}
 use Rattle.asm_graph.specs.declared.graph.StepFault.TheVariants as fault
 use Rattle.asm_graph.specs.Graphs.{state_at}
-use Rattle.asm_graph.specs.Arrows.{AreArrows}
+use Rattle.asm_graph.specs.Arrows.{DrawnEdge, all_edges, edge_label}
 use Rattle.asm_graph.specs.Labels.{node_label}
+use Rattle.asm_graph.specs.Paths.{is_among}
 
 -- ---- texts within quotes
 
@@ -130,21 +129,19 @@ abbrev pub end_name : EdgeEnd → List ℕ
 end_name (target.Node i) = node_name i
 end_name (target.Fault f) = fault_name f
 
-abbrev pub arrow_line : Arrow → List ℕ
-arrow_line arrow =
-    codes "  " ++ (node_name arrow.from ++ (codes " -> " ++ (end_name arrow.to ++ (codes " [label=" ++ (quoted arrow.label.items ++ (red_mark arrow.is_red ++ codes "];\n"))))))
+abbrev pub arrow_line : Spec → (turns : ℕ) → (path : List (ℕ × ℕ)) → DrawnEdge → List ℕ
+arrow_line s turns path drawn =
+    codes "  " ++ (node_name drawn.number ++ (codes " -> " ++ (end_name drawn.edge.to ++ (codes " [label=" ++ (quoted (edge_label s turns drawn) ++ (red_mark (is_among path drawn.number drawn.own) ++ codes "];\n"))))))
 
 -- ---- the whole
 
-abbrev pub dot_of : Spec → (names : List (List ℕ)) → Graph → List Arrow → List ℕ
-dot_of s names graph arrows =
+abbrev pub dot_of : Spec → (names : List (List ℕ)) → Graph → (lines : List ℕ) → List ℕ
+dot_of s names graph lines =
     codes "digraph " ++ (quoted s.name.text ++ (codes " {\n  node [shape=box];\n"
     ++ (node_lines s names 0 graph.nodes.items graph.steps.items
     ++ (flat_map (fault_line graph.steps.items) faults
-    ++ (flat_map arrow_line arrows ++ codes "}\n")))))
+    ++ (lines ++ codes "}\n")))))
 
 -- of the graph of the specification, with what these names show, and this path
 pub record IsDotOf (s : Spec) (names : List (List ℕ)) (turns : ℕ) (path : List (ℕ × ℕ)) (graph : Graph) (dot : List ℕ) : Type 0 where
-  pub arrows : List Arrow
-  pub are : AreArrows s turns path graph.nodes.items graph.steps.items arrows
-  pub is : dot ≡ dot_of s names graph arrows
+  pub is : dot ≡ dot_of s names graph (flat_map (arrow_line s turns path) (all_edges 0 graph.nodes.items graph.steps.items))

@@ -6,7 +6,10 @@
 --     IsKind f fault       the fault of a set is of this kind
 --     HasFault f r         what a step yields has a fault of this kind
 --     GoesTo nodes A r t   what a step yields in a state leads to this target
---     IsEdge e             whatever takes the choices of the edge, the step leads to its target
+--     along cs             who takes the choices of an edge: a script with a line for each of them,
+--                          and no other, in step 1
+--     IsEdge e             the choices of the edge are those that the step along it makes, in their
+--                          order; whatever takes them, the step leads to its target
 --     AreEdges es          each is such an edge, and whatever is chosen, the step leads to the
 --                          target of one of them
 --     IsShown n step       what is shown of the step from a node
@@ -34,12 +37,16 @@ use Rattle.std.specs.Prelude.{◌≡◌, ◌≢◌, ◌≤◌, ◌<◌, ◌+◌,
 use Rattle.asm_state.specs.Location.{State}
 use Rattle.asm_state.specs.Signature.{Shape, count_of, state_of}
 use Rattle.asm_state.specs.Updates.{Fault, Clash, Outside, IsFirstFault}
+use Rattle.asm_reader.specs.ExactLines.{exactly}
 use Rattle.asm_reader.specs.ScriptLines.{Script}
 use Rattle.asm_meaning.specs.Run.{AtLimit, Specification, run}
 use Rattle.asm_meaning.specs.Yields.{Result, Gives, Exhausted}
+use Rattle.asm_explore.specs.declared.outcomes.listed_outcome.Choice.{Choice}
 use Rattle.asm_explore.specs.declared.outcomes.outcomes_error.RuleOverLimit.{RuleOverLimit}
+use Rattle.asm_explore.specs.ChoiceLines.{lines_for}
 use Rattle.asm_explore.specs.ExplorationResults.{IsReachedBy}
 use Rattle.asm_explore.specs.ListElements.{Each, AnyOf}
+use Rattle.asm_explore.specs.RunChoices.{chosen_from}
 use Rattle.asm_explore.specs.TakenChoices.{Situation, AreTaken, HaveOwnPaths, steps_from}
 use Rattle.asm_explore.specs.Search.{LeadsOn, IsQuiet, StaysWithin}
 use Rattle.asm_graph.specs.declared.graph.Edge.{Edge}
@@ -79,6 +86,9 @@ HasFault f (Exhausted q) = f ≡ kind.Exhausted
 
 -- ---- edges
 
+abbrev pub along : List Choice → Situation
+along cs = record { script = exactly (lines_for 1 cs); step = 1 }
+
 module _ (shape : Shape) where
   abbrev pub state_at : Node → State
   state_at n = state_of shape n.state
@@ -93,6 +103,7 @@ module _ (shape : Shape) where
   module _ (specification : Specification) (turns : ℕ) (nodes : List Node) (A : State) where
     pub record IsEdge (e : Edge) : Type 0 where
       pub apart : HaveOwnPaths e.choices.items
+      pub own : e.choices.items ≡ chosen_from specification turns A (along e.choices.items)
       pub goes : (s : Situation) → AreTaken s e.choices.items → GoesTo nodes A (steps_from specification turns A s) e.to
 
     pub record AreEdges (es : List Edge) : Type 0 where

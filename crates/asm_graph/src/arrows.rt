@@ -9,9 +9,10 @@ ghost use Rattle.asm_explore.specs.RunChoices.{asked_said};
 ghost use Rattle.asm_explore.specs.code.AskedPieces.{all_said};
 ghost use Rattle.asm_explore_texts.specs.Places.{variable_of};
 ghost use Rattle.asm_explore_texts.specs.code.TextPlaces.{elements_said, place_said};
-ghost use Rattle.asm_graph.specs.Arrows.{AreArrows, DrawnEdge, IsArrow, asked_along, chosen_text, edges_in, edges_of, elements_text, given_text, label_text, name_text};
+ghost use Rattle.asm_graph.specs.Arrows.{DrawnEdge, asked_along, chosen_text, edges_in, edges_of, elements_text, given_text, label_text, name_text};
 ghost use Rattle.asm_graph.specs.Arrows as text;
 ghost use Rattle.asm_graph.specs.Graphs.{Pairs};
+ghost use Rattle.asm_graph.specs.code.DrawnArrows.{AreArrows, IsArrow};
 ghost use Rattle.asm_graph.specs.code.EdgeMarks.{AreMarks};
 ghost use Rattle.asm_graph.specs.declared.graph.Node.{Node};
 

@@ -8,6 +8,7 @@ ghost use Rattle.asm_check.specs.Shapes.{shape_of};
 ghost use Rattle.asm_explore.specs.ListElements.{Each};
 ghost use Rattle.asm_explore_table.specs.code.StepsMade.{names_said};
 ghost use Rattle.asm_graph.specs.Dot as text;
+ghost use Rattle.asm_graph.specs.code.DrawnArrows.{drawn_line};
 ghost use Rattle.asm_graph.specs.code.EdgeMarks.{AreMarks};
 ghost use Rattle.asm_graph.specs.code.ShownLocations.{IsOfNames};
 ghost use Rattle.asm_graph.specs.declared.graph.Node.{Node};
@@ -203,7 +204,7 @@ fn add_arrow_label(dot: &mut String, arrow: &Arrow) -> Result<(), AllocError>
 
 /// Adds the line of an edge.
 fn add_arrow(alloc: Global, dot: &mut String, arrow: &Arrow) -> Result<(), AllocError>
-    ensures { OnOk result (string_bytes dot.new ≡ string_bytes dot.old ++ text.arrow_line arrow.now) }
+    ensures { OnOk result (string_bytes dot.new ≡ string_bytes dot.old ++ drawn_line arrow.now) }
 {
     let number = arrow.from;
     let head = format!(in alloc; "  s{number} -> ")?;
@@ -215,7 +216,7 @@ fn add_arrow(alloc: Global, dot: &mut String, arrow: &Arrow) -> Result<(), Alloc
 
 /// Adds the lines of edges.
 fn add_arrows(alloc: Global, dot: &mut String, arrows: &[Arrow]) -> Result<(), AllocError>
-    ensures { OnOk result (string_bytes dot.new ≡ string_bytes dot.old ++ flat_map text.arrow_line arrows.now) }
+    ensures { OnOk result (string_bytes dot.new ≡ string_bytes dot.old ++ flat_map drawn_line arrows.now) }
 {
     for arrow in arrows {
         add_arrow(alloc, dot, arrow)?;
@@ -233,7 +234,7 @@ fn text_of(
 ) -> Result<String, AllocError>
     requires whole { Each (λ (n : Node). length n.state ≡ count_of (shape_of (spec_of checked.now.spec))) graph.now.nodes.items }
     requires paired { length graph.now.steps.items ≡ length graph.now.nodes.items }
-    ensures { IfOk result (λ dot. string_bytes dot ≡ text.dot_of (spec_of checked.now.spec) (names_said names.now) graph.now arrows.now) }
+    ensures { IfOk result (λ dot. string_bytes dot ≡ text.dot_of (spec_of checked.now.spec) (names_said names.now) graph.now (flat_map drawn_line arrows.now)) }
 {
     let shown = shown_locations(alloc, checked, names)?;
     let texts = NodeTexts {

@@ -3,8 +3,9 @@ ghost use Rattle.asm_graph.specs.Arrows.{AlongLaw};
 ghost use Rattle.asm_graph.specs.Dot.{QuotedLaw};
 ghost use Rattle.asm_graph.specs.Graphs.{QuietLaw};
 ghost use Rattle.asm_graph.specs.Labels.{NamedLaw};
+ghost use Rattle.asm_graph.specs.WayLaw.{WayLaw};
 
-use asm_explore::laws::script_law;
+use asm_explore::laws::{making_laws, script_law};
 
 /// If each edge from a node leads back to it, its state is quiet: no step changes it, whatever
 /// is chosen.
@@ -27,4 +28,14 @@ pub fn along_law()
     ensures { AlongLaw }
 {
     script_law();
+}
+
+/// The edges of a graph that a run takes are those of the run, as far as they go: each has just the
+/// choices that the run makes in its step, and leads where the run goes. They end with the run's
+/// steps, at its fault, at a node whose step isn't shown, or where no edge's choices are taken; then
+/// one of the edges leads where the run goes.
+pub fn way_law()
+    ensures { WayLaw }
+{
+    making_laws();
 }

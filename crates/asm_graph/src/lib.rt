@@ -15,6 +15,7 @@ pub mod graph_of_states;
 mod labels;
 pub mod laws;
 mod location_text;
+mod made_choices;
 mod named_locations;
 mod next_state;
 pub mod path_graph;

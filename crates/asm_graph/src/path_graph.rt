@@ -5,7 +5,7 @@ ghost use Rattle.asm_state.specs.Signature.{count_of, state_of};
 ghost use Rattle.asm_check.specs.Shapes.{shape_of};
 ghost use Rattle.asm_meaning.specs.Declarations.{specification_of};
 ghost use Rattle.asm_syntax.specs.code.Views.{spec_of};
-ghost use Rattle.asm_explore.specs.RunChoices.{chosen_from, choices_made};
+ghost use Rattle.asm_explore.specs.RunChoices.{chosen_from};
 ghost use Rattle.asm_explore.specs.Search.{LeadsOn};
 ghost use Rattle.asm_explore.specs.TakenChoices.{steps_from};
 ghost use Rattle.asm_explore.specs.code.ResolvedConditions.{IsSpecified, holds_in, term_holds};
@@ -16,11 +16,12 @@ ghost use Rattle.asm_graph.specs.code.WaySoFar.{HasNodeMore, IsEndOf, IsWayMore}
 
 use crate::find_node::{hash_of, is_same_state};
 use crate::graph::{Edge, EdgeEnd, Graph, Node, Step, StepFault};
+use crate::made_choices::made_choices;
 use crate::next_state::kind_of;
 use asm_check::Checked;
-use asm_eval::{Choices, Path};
+use asm_eval::Choices;
 use asm_explore::condition::condition_code;
-use asm_explore::{Choice, ChoicePoint, Machine, Question, ResolvedQuestion, choices_of_step};
+use asm_explore::{Choice, Machine, Question, ResolvedQuestion};
 use asm_reader::Picks;
 use asm_resolve::main_rule::resolve_main;
 use asm_state::state::State;
@@ -51,46 +52,6 @@ fn path_node(
         rests,
         hash,
     })
-}
-
-/// The same choice again.
-fn copied(alloc: Global, choice: &Choice) -> Result<Choice, AllocError>
-    ensures { IfOk result (λ c. c ≡ choice.now) }
-{
-    let numbers = choice.path.as_slice().to_vec(alloc)?;
-    Ok(Choice {
-        path: Path::new(numbers),
-        number: choice.number,
-    })
-}
-
-/// The choices without their candidates.
-fn choices_in(alloc: Global, asked: &[ChoicePoint]) -> Result<Vec<Choice>, AllocError>
-    ensures { IfOk result (λ choices. choices.items ≡ choices_made asked.now) }
-{
-    let mut choices = Vec::new(alloc);
-    for k in 0..asked.len() {
-        choices.push(copied(alloc, &asked[k].choice)?)?;
-    }
-    Ok(choices)
-}
-
-/// The choices that the step from a state makes.
-fn made_choices<P: Picks>(
-    alloc: Global,
-    specified: &ResolvedQuestion<'_>,
-    choices: &Choices<'_, P>,
-    state: &State,
-) -> Result<Vec<Choice>, AllocError>
-    requires specified { IsSpecified specified.now }
-    requires whole { length state.now ≡ count_of (shape_of (spec_of specified.now.checked.now.spec)) }
-    ensures { let s = spec_of specified.now.checked.now.spec in
-        IfOk result (λ made. made.items ≡ chosen_from (specification_of s) specified.now.turns (state_of (shape_of s) state.now) (situation_of P.script choices.now)) }
-{
-    let (checked, code, turns) = (specified.checked, specified.code, specified.turns);
-    let asked = choices_of_step(alloc, checked, code, turns, choices, state)?;
-    let made = choices_in(alloc, asked.as_slice())?;
-    Ok(made)
 }
 
 /// The state that the step from a state leads to, or its fault.

@@ -6,7 +6,8 @@
 --     FailsSo one f              it has a fault of this kind
 --     IsOutcome A one            it is one of the step from the state
 --     IsNear nodes d end         the node that an edge leads to is there, at most so deep
---     IsFollowed A d one e       an edge has its choices, and leads where it does
+--     IsFollowed A d one e       an edge has the choices that the step along the outcome makes, and
+--                                leads where it does
 --     AreNear nodes n step       each edge leads to a node at most one step deeper than its own
 --     IsLed depth A              choices of `depth` steps lead to the state
 --     IsNodeRight n              they lead to the state of a node, whose marks are right
@@ -28,6 +29,7 @@ use Rattle.asm_explore.specs.declared.outcomes.listed_outcome.ListedOutcome.{Lis
 use Rattle.asm_explore.specs.code.OutcomeLists.{Each, IsCounted, IsSound, Shows}
 use Rattle.asm_explore.specs.code.ChoicePaths.{HaveOwnPaths}
 use Rattle.asm_explore.specs.code.ReachedStates.{LeadTo, steps_from}
+use Rattle.asm_explore.specs.RunChoices.{chosen_from}
 use Rattle.asm_explore.specs.Search.{LeadsOn}
 use Rattle.asm_graph.specs.declared.graph.Edge.{Edge}
 use Rattle.asm_graph.specs.declared.graph.EdgeEnd.{EdgeEnd}
@@ -36,7 +38,7 @@ use Rattle.asm_graph.specs.declared.graph.Node.{Node}
 use Rattle.asm_graph.specs.declared.graph.Step.{Step}
 use Rattle.asm_graph.specs.declared.graph.Step.TheVariants as step
 use Rattle.asm_graph.specs.declared.graph.StepFault.{StepFault}
-use Rattle.asm_graph.specs.Graphs.{AreApart, DepthsRise, GoesTo, HasFault, state_at}
+use Rattle.asm_graph.specs.Graphs.{AreApart, DepthsRise, GoesTo, HasFault, along, state_at}
 
 -- ---- contents
 
@@ -72,8 +74,8 @@ module _ (shape : Shape) where
   abbrev pub FailsSo : ListedOutcome → StepFault → Type 0
   FailsSo one f = (r : Result) → Shows shape one.answer r → HasFault f r
 
-  pub record IsFollowed (nodes : List Node) (A : State) (depth : ℕ) (one : ListedOutcome) (e : Edge) : Type 0 where
-    pub choices : e.choices.items ≡ one.choices
+  pub record IsFollowed (specification : Specification) (turns : ℕ) (nodes : List Node) (A : State) (depth : ℕ) (one : ListedOutcome) (e : Edge) : Type 0 where
+    pub choices : e.choices.items ≡ chosen_from specification turns A (along one.choices)
     pub goes : (r : Result) → Shows shape one.answer r → GoesTo shape nodes A r e.to
     pub near : IsNear nodes depth e.to
 

@@ -1,5 +1,5 @@
 use Rattle.std.proofs.Common.{[], ◌∷◌}
-use Rattle.asm_graph.specs.Arrows.{along}
+use Rattle.asm_graph.specs.Graphs.{along}
 use Rattle.asm_graph.proofs.laws.along_law.Goals as goal
 
 pub returns : goal.returns

@@ -1,6 +1,7 @@
 use Rattle.std.proofs.Common.{◌++◌, ◌∷◌, ◌∙◌, [], refl, subst, sym, take}
 use Rattle.asm_syntax.specs.code.Views.{spec_of}
-use Rattle.asm_graph.specs.Arrows.{IsArrow, drawn_from, edges_in}
+use Rattle.asm_graph.specs.Arrows.{drawn_from, edges_in}
+use Rattle.asm_graph.specs.code.DrawnArrows.{IsArrow}
 use Rattle.asm_graph.specs.Graphs.{Pairs}
 use Rattle.asm_graph.proofs.DrawnArrows.{edges_more}
 use Rattle.asm_graph.proofs.Paired.{pairs_push}

@@ -1,6 +1,7 @@
 use Rattle.std.proofs.Common.{◌++◌, ℕ, List, take}
 use Rattle.asm_syntax.specs.code.Views.{spec_of}
-use Rattle.asm_graph.specs.Arrows.{DrawnEdge, IsArrow, edges_in}
+use Rattle.asm_graph.specs.Arrows.{DrawnEdge, edges_in}
+use Rattle.asm_graph.specs.code.DrawnArrows.{IsArrow}
 use Rattle.asm_graph.specs.Graphs.{Pairs}
 use Rattle.asm_graph.specs.code.EdgeMarks.{AreMarks}
 use Rattle.asm_graph.proofs.arrows.Drawing.add_edges.Given as goal

@@ -1,6 +1,7 @@
 use Rattle.std.proofs.Common.{subst, take}
 use Rattle.asm_syntax.specs.code.Views.{spec_of}
-use Rattle.asm_graph.specs.Arrows.{IsArrow, all_edges}
+use Rattle.asm_graph.specs.Arrows.{all_edges}
+use Rattle.asm_graph.specs.code.DrawnArrows.{IsArrow}
 use Rattle.asm_graph.specs.Graphs.{Pairs}
 use Rattle.asm_graph.proofs.DrawnArrows.{all_more}
 use Rattle.asm_graph.proofs.arrows.Drawing.arrows.Goals as goal

@@ -1,6 +1,6 @@
 use Rattle.std.proofs.Common.{ℕ, List, take}
 use Rattle.asm_syntax.specs.code.Views.{spec_of}
-use Rattle.asm_graph.specs.Arrows.{AreArrows}
+use Rattle.asm_graph.specs.code.DrawnArrows.{AreArrows}
 use Rattle.asm_graph.specs.code.EdgeMarks.{AreMarks}
 use Rattle.asm_graph.proofs.arrows.Drawing.arrows.Given as goal
 

@@ -1,25 +1,25 @@
 use Rattle.std.proofs.Common.{◌≡◌, ◌+◌, ◌<◌, ◌∙◌, ◌++◌, ◌∷◌, [], length, take, refl, ap, sym, subst, arith}
 use Rattle.std.specs.Prelude.{Some, slice_get}
 use Rattle.std.proofs.lemmas.List.{length-append, length_push, take_all}
-use Rattle.asm_explore.specs.code.StepOutcomes.{IsOverLimitOf}
 use Rattle.asm_graph.specs.Graphs.{AreFound, IsShown, Pairs}
 use Rattle.asm_graph.specs.code.GraphSoFar.{AreNear}
+use Rattle.asm_graph.specs.code.ResolvedMachines.{crowds_in, rests_in, right_in, shape_in, specification_in, within_in}
 use Rattle.asm_graph.proofs.FoundNodes.{first_more, found_more, next_more, none_found, one_shallow}
 use Rattle.asm_graph.proofs.MoreNodes.{all_near_more, grown_shallow, shown_more}
 use Rattle.asm_graph.proofs.Paired.{pairs_push, pairs_weaker, some_at, take_next}
 use Rattle.asm_graph.proofs.build_graph.Walk.steps_from_all.Goals as goal
 
 pub loop-made-init : goal.loop-made-init
-loop-made-init g c =
+loop-made-init c =
     let a = c.args in
-    let shape = g.M.Machine.shape a.self.now.machine.now in
-    let specification = g.M.Machine.specification a.self.now.machine.now in
-    let turns = g.M.Machine.turns a.self.now.machine.now in
-    let within = g.M.Machine.within a.self.now.machine.now in
-    let right = g.M.Machine.right a.self.now.machine.now in
-    let rests = g.M.Machine.rests a.self.now.machine.now in
+    let shape = shape_in a.self.now.machine.now in
+    let specification = specification_in a.self.now.machine.now in
+    let turns = a.self.now.machine.now.turns in
+    let within = within_in a.self.now.machine.now in
+    let right = right_in a.self.now.machine.now in
+    let rests = rests_in a.self.now.machine.now in
     let nodes = a.nodes.now.items in
-    let shown = IsShown shape specification turns within (IsOverLimitOf (g.M.Machine.made a.self.now.machine.now) (g.M.Machine.limit a.self.now.machine.now)) a.self.now.steps nodes in
+    let shown = IsShown shape specification turns within (crowds_in a.self.now.machine.now) a.self.now.steps nodes in
     record {
       some = omega (arith, ap length c.requires.none);
       kept = c.requires.nodes;
@@ -31,21 +31,21 @@ loop-made-init g c =
     }
 
 pub step_from-requires-clause-near : goal.step_from-requires-clause-near
-step_from-requires-clause-near g c = λ n there.
+step_from-requires-clause-near c = λ n there.
     let l = c.loop-made in
     let at : c.len-in-loop-made-2.result ≡ length l.made.items = omega (arith, c.len-in-loop-made-2.ensures, l.made.ok.0) in
     l.invariant.next n (sym (ap (slice_get l.nodes.items) at) ∙ there)
 
 pub loop-made-preserved : goal.loop-made-preserved
-loop-made-preserved g c =
+loop-made-preserved c =
     let a = c.args in
-    let shape = g.M.Machine.shape a.self.now.machine.now in
-    let specification = g.M.Machine.specification a.self.now.machine.now in
-    let turns = g.M.Machine.turns a.self.now.machine.now in
-    let within = g.M.Machine.within a.self.now.machine.now in
-    let right = g.M.Machine.right a.self.now.machine.now in
-    let rests = g.M.Machine.rests a.self.now.machine.now in
-    let crowds = IsOverLimitOf (g.M.Machine.made a.self.now.machine.now) (g.M.Machine.limit a.self.now.machine.now) in
+    let shape = shape_in a.self.now.machine.now in
+    let specification = specification_in a.self.now.machine.now in
+    let turns = a.self.now.machine.now.turns in
+    let within = within_in a.self.now.machine.now in
+    let right = right_in a.self.now.machine.now in
+    let rests = rests_in a.self.now.machine.now in
+    let crowds = crowds_in a.self.now.machine.now in
     let l = c.loop-made in
     let old = l.nodes.items in
     let made = l.made.items in
@@ -83,20 +83,20 @@ loop-made-preserved g c =
     }
 
 pub returns-clause-shown : goal.returns-clause-shown
-returns-clause-shown g c =
+returns-clause-shown c =
     let a = c.args in
-    let shape = g.M.Machine.shape a.self.now.machine.now in
-    let specification = g.M.Machine.specification a.self.now.machine.now in
-    let turns = g.M.Machine.turns a.self.now.machine.now in
-    let within = g.M.Machine.within a.self.now.machine.now in
-    let right = g.M.Machine.right a.self.now.machine.now in
-    let rests = g.M.Machine.rests a.self.now.machine.now in
+    let shape = shape_in a.self.now.machine.now in
+    let specification = specification_in a.self.now.machine.now in
+    let turns = a.self.now.machine.now.turns in
+    let within = within_in a.self.now.machine.now in
+    let right = right_in a.self.now.machine.now in
+    let rests = rests_in a.self.now.machine.now in
     let l = c.loop-made in
-    let shown = IsShown shape specification turns within (IsOverLimitOf (g.M.Machine.made a.self.now.machine.now) (g.M.Machine.limit a.self.now.machine.now)) a.self.now.steps l.nodes.items in
+    let shown = IsShown shape specification turns within (crowds_in a.self.now.machine.now) a.self.now.steps l.nodes.items in
     subst (λ ns. Pairs shown ns l.made.items) (take_all (length l.made.items) l.nodes.items (omega (arith, c.loop-made-test.false, c.len.ensures, c.len-in-loop-made.ensures))) l.invariant.shown
 
 pub returns-clause-near : goal.returns-clause-near
-returns-clause-near g c =
+returns-clause-near c =
     let l = c.loop-made in
     subst (λ ns. Pairs (AreNear l.nodes.items) ns l.made.items)
     (take_all (length l.made.items) l.nodes.items (omega (arith, c.loop-made-test.false, c.len.ensures, c.len-in-loop-made.ensures))) l.invariant.near
