@@ -7,8 +7,8 @@
 --                                true
 --     IsAnyTextRefused           the specification's text is refused, or a condition's
 --     IsScriptDrawn script       it is such a script; or a text is refused, and it has no bytes
---     IsUnwrittenDraw            the lines of the run that is drawn are too long for a script, or a
---                                choice of it can't be drawn
+--     IsUnwrittenDraw            the lines of the run that is drawn are too long for a script, or it
+--                                comes to a step that all rounds of drawing don't settle
 --     ExplainsUndrawn            why there is no script: memory ran out, or so
 use Rattle.std.specs.Prelude.{◌≡◌, ◌⊎◌, ℕ, List, [], Option, ⊤}
 use Rattle.asm_syntax.specs.SourceTree.{Spec, Term}

@@ -23,7 +23,7 @@ use std::alloc::{AllocError, AllocFailed, Global};
 pub enum Undrawn {
     /// Memory ran out.
     Memory,
-    /// It can't be written.
+    /// It can't be written, or no round settles which choices a step makes.
     Unwritten,
 }
 
@@ -108,8 +108,8 @@ fn script_of<'w>(
 }
 
 /// The script of the run that settings ask for, of the specification with this text, if its choices
-/// are drawn from a seed: up to a state in which one of these conditions isn't true. It has no line if
-/// the text or a condition is refused.
+/// are drawn from a seed: up to a state in which one of these conditions isn't true. It has no line
+/// if the text or a condition is refused.
 pub fn drawn_script<'w>(
     alloc: Global,
     text: &[u8],

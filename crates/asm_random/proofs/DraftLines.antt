@@ -14,7 +14,7 @@ use Rattle.std.specs.Ordering.{is_eq, nat_cmp}
 use Rattle.std.specs.Map.{lookup}
 use Rattle.std.proofs.lemmas.Map.Text.{is_eq-slice_cmp}
 use Rattle.asm_reader.specs.ScriptLines.{Line, exact_choice, is_line_of}
-use Rattle.asm_random.specs.Drafts.{lines_in, lines_from}
+use Rattle.asm_random.specs.code.Drafts.{lines_in, lines_from}
 
 eq_sym : (m n : ℕ) → nat_eq m n ≡ nat_eq n m
 eq_sym m n = grind (arith)
@@ -55,7 +55,7 @@ chosen_or true c x y = refl
 chosen_or false c x y = refl
 
 -- lines, and others after them
-behind : (ks ls : List Line) (step : ℕ) (p : List ℕ) → exact_choice (ks ++ ls) step p ≡ option_or (exact_choice ks step p) (exact_choice ls step p)
+pub behind : (ks ls : List Line) (step : ℕ) (p : List ℕ) → exact_choice (ks ++ ls) step p ≡ option_or (exact_choice ks step p) (exact_choice ls step p)
 behind [] ls step p = refl
 behind (k ∷ ks) ls step p = ap (cond (is_line_of step p k) (Some k.choice)) (behind ks ls step p) ∙ chosen_or (is_line_of step p k) k.choice (exact_choice ks step p) (exact_choice ls step p)
 

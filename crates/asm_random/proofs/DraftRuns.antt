@@ -14,7 +14,7 @@ use Rattle.asm_reader.specs.ScriptLines.{exact_choice, pick}
 use Rattle.asm_meaning.specs.Run.{Run, Specification, run}
 use Rattle.asm_explore.specs.Search.{IsAliveOrCrowded}
 use Rattle.asm_random.specs.declared.draft.Draft.{Draft}
-use Rattle.asm_random.specs.Drafts.{draft_lines, lines_from}
+use Rattle.asm_random.specs.code.Drafts.{draft_lines, lines_from}
 use Rattle.asm_explore.specs.declared.outcomes.outcomes_error.RuleOverLimit.{RuleOverLimit}
 use Rattle.asm_random.specs.FineRuns.{AreFine, IsFineRun, MadeRun}
 use Rattle.asm_random.specs.code.DraftSteps.{AddsStep}

@@ -17,7 +17,7 @@ use Rattle.asm_meaning.specs.StoryLaws.{AreToldOutcomes}
 use Rattle.asm_explore.specs.ChoicePoints.{Asking, asked}
 use Rattle.asm_explore.specs.RunChoices.{asked_from}
 use Rattle.asm_random.specs.declared.draft.Draft.{Draft}
-use Rattle.asm_random.specs.Drafts.{draft_lines}
+use Rattle.asm_random.specs.code.Drafts.{draft_lines}
 use Rattle.asm_random.specs.DrawnTexts.{AreDrawn, IsDrawnRun, IsDrawnTo, IsOver, IsStill, asked_after, at_step}
 use Rattle.asm_random.specs.code.DraftSteps.{AddsStep}
 use Rattle.asm_random.specs.code.DrawnSteps.{EndsRun, IsSilent}

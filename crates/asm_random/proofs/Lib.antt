@@ -6,8 +6,11 @@ mod DrawnTextLines
 mod EachDrawn
 mod Endings
 mod PickedLines
+mod PutNumbers
 mod QuietSteps
+mod RedrawnLines
 mod RunsSoFar
 mod SameRuns
+mod SettledRounds
 mod Shortened
 mod StoriesAlike

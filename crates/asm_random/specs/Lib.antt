@@ -1,4 +1,3 @@
-pub mod Drafts
 pub mod BadDrafts
 pub mod DrawnNumbers
 pub mod DrawnTexts

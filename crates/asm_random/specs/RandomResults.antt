@@ -1,15 +1,14 @@
 -- Definition. What a result claims of random runs.
---     IsBadDraft run        the run under the draft goes wrong
 --     IsBadScript bad       the text is that of the lines of a script, under which the run goes
 --                           wrong; they are those of the choices that this run makes
 --     IsUnwrittenRun        the run under a script goes wrong, and the lines of the choices that it
 --                           makes are too long for a script
 --     Claims                what each finding says of the run that goes wrong, if there is one
 --     IsLast                the run with this number is the last one that was made, of as many as
---                           are asked for, and the runs before it are fine. Under a script, which is
---                           that of its draft, it goes wrong in its last step: the steps up to this
---                           one are counted. A fault that is shown comes in no later step, and is a
---                           deadlock if that one is, and else is none
+--                           are asked for, and the runs before it are fine. Under some script it
+--                           goes wrong in its last step: the steps up to this one are counted. A
+--                           fault that is shown comes in no later step, and is a deadlock if that
+--                           one is, and else is none
 --     Counts                how many runs and steps were made: without a bad run as many runs as
 --                           are asked for, all of which are fine
 use Rattle.std.specs.Prelude.{◌≡◌, ◌↔◌, ◌+◌, ◌≤◌, ℕ, suc, Bool, false, List}
@@ -26,20 +25,15 @@ use Rattle.asm_explore.specs.declared.fault.Fault.TheVariants as fault
 use Rattle.asm_explore.specs.declared.outcomes.outcomes_error.RuleOverLimit.{RuleOverLimit}
 use Rattle.asm_random.specs.declared.random_result.RandomFinding.{RandomFinding}
 use Rattle.asm_random.specs.declared.random_result.RandomFinding.TheVariants as finding
-use Rattle.asm_random.specs.declared.bad_draft.BadDraft.{BadDraft}
 use Rattle.asm_random.specs.BadDrafts.{IsWrongUnder}
 use Rattle.asm_explore.specs.ChosenLines.{AreTooLong, chosen_lines}
 use Rattle.asm_explore.specs.Search.{steps_to}
 use Rattle.asm_explore.specs.WrittenScripts.{IsTextOf}
-use Rattle.asm_random.specs.Drafts.{draft_lines}
 use Rattle.asm_random.specs.FineRuns.{AreFine}
 
 module _ (specification : Specification) (turns : ℕ) (crowds : State → RuleOverLimit → Type 0) (steps : ℕ) (right rests : State → Bool) where
   abbrev IsWrong : Script → (step : ℕ) → Fault → Type 0
   IsWrong = IsWrongUnder specification turns crowds steps right rests
-
-  abbrev pub IsBadDraft : BadDraft → Type 0
-  IsBadDraft r = IsWrong (exactly (draft_lines r.draft)) r.wrong.step r.wrong.fault
 
   pub record IsBadScript (bad : BadRun) : Type 0 where
     pub lines : List Line

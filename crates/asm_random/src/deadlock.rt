@@ -10,8 +10,8 @@ use asm_explore::{Machine, ResolvedQuestion, SearchError};
 use asm_state::state::State;
 use std::alloc::{AllocError, Global};
 
-/// Whether the state is seen to be a deadlock: whatever is chosen, the step from it changes nothing,
-/// and a run may not rest in it. Of a step with too many outcomes nothing is seen.
+/// Whether the state is seen to be a deadlock: whatever is chosen, the step from it changes
+/// nothing, and a run may not rest in it. Of a step with too many outcomes nothing is seen.
 pub(crate) fn is_deadlock(
     alloc: Global,
     specified: &ResolvedQuestion<'_>,

@@ -2,7 +2,7 @@
 ghost use Rattle.std.specs.Prelude.{◌≡◌, ℕ, [], unwrap_or};
 ghost use Rattle.asm_reader.specs.ExactLines.{exactly};
 ghost use Rattle.asm_reader.specs.ScriptLines.{exact_choice};
-ghost use Rattle.asm_random.specs.Drafts.{draft_lines, lines_in};
+ghost use Rattle.asm_random.specs.code.Drafts.{draft_lines, lines_in};
 
 use asm_reader::Picks;
 use std::alloc::{AllocError, Global};

@@ -8,7 +8,7 @@ ghost use Rattle.asm_meaning.specs.Declarations.{main_rule, specification_of};
 ghost use Rattle.asm_explore.specs.code.ResolvedConditions.{IsCondition, IsSpecified, term_holds};
 ghost use Rattle.asm_resolve.specs.code.RuleScopes.{resolved_rule_in};
 ghost use Rattle.asm_random.specs.DrawnTexts.{IsDrawnRun, IsDrawnText, IsLongDraw, IsUnsettled};
-ghost use Rattle.asm_random.specs.Drafts.{draft_lines};
+ghost use Rattle.asm_random.specs.code.Drafts.{draft_lines};
 ghost use Rattle.asm_random.specs.code.ResolvedRuns.{right_in, specification_in};
 ghost use Rattle.asm_reader.specs.ExactLines.{exactly};
 
@@ -121,10 +121,10 @@ fn text_by(
 }
 
 /// The text of the script of a run whose choices are drawn: those of run 0 of the runs from the
-/// seed. It has at most so many steps, and is drawn up to a state in which the condition isn't true,
-/// a step that has a fault, or a state from which nothing goes on.
+/// seed. It has at most so many steps, and is drawn up to a state in which the condition isn't
+/// true, a step that has a fault, or a state from which nothing goes on.
 ///
-/// There is no text if the lines are too long for a script.
+/// There is no text if the lines are too long for a script, or the numbers of a step aren't found.
 pub fn drawn_text(
     alloc: Global,
     checked: &Checked,

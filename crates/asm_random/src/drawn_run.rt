@@ -3,7 +3,7 @@ ghost use Rattle.std.specs.Prelude.{IfNone, IfOk, IfSome};
 ghost use Rattle.asm_state.specs.code.Contents.{IsStateOf};
 ghost use Rattle.asm_reader.specs.ExactLines.{exactly};
 ghost use Rattle.asm_explore.specs.code.ResolvedConditions.{IsSpecified};
-ghost use Rattle.asm_random.specs.Drafts.{draft_lines};
+ghost use Rattle.asm_random.specs.code.Drafts.{draft_lines};
 ghost use Rattle.asm_random.specs.DrawnTexts.{IsDrawnRun, IsUnsettled};
 ghost use Rattle.asm_random.specs.code.DrawnSteps.{GoesOn};
 ghost use Rattle.asm_random.specs.code.ResolvedRuns.{right_in, shape_in, specification_in};
@@ -52,9 +52,9 @@ pub(crate) struct FollowedDraft {
     pub(crate) steps: u32,
 }
 
-/// The run of at most `steps` steps that is drawn from a seed, as run 0. It ends before a state that
-/// isn't right, with a step that has a fault, and when a step makes no choice and changes nothing.
-/// There is none if the numbers of a step aren't found.
+/// The run of at most `steps` steps that is drawn from a seed, as run 0. It ends before a state
+/// that isn't right, with a step that has a fault, and when a step makes no choice and changes
+/// nothing. There is none if the numbers of a step aren't found in all rounds.
 pub(crate) fn drawn_run(
     alloc: Global,
     specified: &ResolvedQuestion<'_>,

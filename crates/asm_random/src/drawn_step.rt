@@ -1,13 +1,16 @@
 //! The numbers of a step, drawn.
-ghost use Rattle.std.specs.Prelude.{◌≡◌, false, length, IfOk, IsTrue, OnOk};
+ghost use Rattle.std.specs.Prelude.{◌≡◌, ◌≢◌, false, length, map, IfOk, IsTrue, OnOk};
 ghost use Rattle.asm_state.specs.Signature.{count_of, state_of};
 ghost use Rattle.asm_syntax.specs.code.Views.{spec_of};
 ghost use Rattle.asm_check.specs.Shapes.{shape_of};
+ghost use Rattle.asm_explore.specs.ChoicePoints.{choices_of};
+ghost use Rattle.asm_explore.specs.TakenChoices.{HaveOwnPaths};
 ghost use Rattle.asm_explore.specs.code.AskedPieces.{all_said};
 ghost use Rattle.asm_explore.specs.code.ResolvedConditions.{IsSpecified};
 ghost use Rattle.asm_random.specs.DrawnNumbers.{drawn_number};
-ghost use Rattle.asm_random.specs.DrawnTexts.{AreDrawn};
-ghost use Rattle.asm_random.specs.code.DraftSteps.{AddsStep, ReplacesLast};
+ghost use Rattle.asm_random.specs.DrawnTexts.{AreDrawn, IsUndrawnAfter, drawn_line, most_rounds};
+ghost use Rattle.asm_random.specs.code.DraftSteps.{AddsStep, PutsNumber, ReplacesLast, TakeAs};
+ghost use Rattle.asm_random.specs.code.DrawnSteps.{asked_under};
 ghost use Rattle.asm_random.specs.code.WrongSteps.{IsSameForAll};
 ghost use Rattle.asm_random.specs.code.ResolvedRuns.{shape_in, specification_in};
 
@@ -30,20 +33,39 @@ fn drawn(source: RandomSource, step: u64, asked: &ChoicePoint) -> u64
     source.candidate(step, asked.choice.path.as_slice(), many.max(1))
 }
 
-/// The numbers that are drawn for some choices, except 0, which is taken without one.
+/// Puts a number at a path, except 0, which is taken without one.
+fn put_number(
+    alloc: Global,
+    numbers: &mut Numbers,
+    path: &[u64],
+    number: u64,
+) -> Result<(), AllocError>
+    ensures zero { number ≡ 0 → OnOk result (numbers.new.entries ≡ numbers.old.entries) }
+    ensures put { number ≢ 0 → OnOk result (PutsNumber numbers.old numbers.new path.now number) }
+{
+    if number == 0 {
+        return Ok(());
+    }
+    let path = path.to_vec(alloc)?;
+    numbers.insert(path, number)?;
+    Ok(())
+}
+
+/// The numbers that are drawn for some choices.
 fn drawn_numbers(
     alloc: Global,
     source: RandomSource,
     step: u64,
     asked: &[ChoicePoint],
-) -> Result<Numbers, AllocError> {
+) -> Result<Numbers, AllocError>
+    requires { HaveOwnPaths (choices_of (all_said asked.now)) }
+    ensures { IfOk result (λ numbers. TakeAs step numbers (map (drawn_line source.seed source.run step) (all_said asked.now))) }
+{
     let mut numbers = BTreeMap::new(alloc);
     for k in 0..asked.len() {
-        let number = drawn(source, step, &asked[k]);
-        if number != 0 {
-            let path = asked[k].choice.path.as_slice().to_vec(alloc)?;
-            numbers.insert(path, number)?;
-        }
+        let point = &asked[k];
+        let number = drawn(source, step, point);
+        put_number(alloc, &mut numbers, point.choice.path.as_slice(), number)?;
     }
     Ok(numbers)
 }
@@ -86,6 +108,8 @@ pub(crate) fn draw_step(
     requires sound { IsSpecified specified.now }
     requires whole { length state.now ≡ count_of (shape_of (spec_of specified.now.checked.now.spec)) }
     ensures adds { OnOk result (AddsStep draft.old draft.new) }
+    ensures undrawn { let m = specified.now in let step = length draft.new.steps.items in
+        OnOk result (¬ (AreDrawn source.seed source.run step (asked_under m draft.new state.now step)) → IsUndrawnAfter (specification_in m) m.turns source.seed source.run step (state_of (shape_in m) state.now) most_rounds) }
     ensures alike { let m = specified.now in
         IfOk result (λ chosen. chosen ≡ false → IsSameForAll (specification_in m) m.turns (state_of (shape_in m) state.now)) }
 {

@@ -10,8 +10,8 @@ use crate::shortening::shorten;
 use asm_explore::{BadRun, ResolvedQuestion, Unwritten, chosen_text};
 use std::alloc::{AllocError, Global};
 
-/// What is found if the run with this number goes wrong: with the script of the choices that it makes,
-/// and that lead to the fault.
+/// What is found if the run with this number goes wrong: with the script of the choices that it
+/// makes, and that lead to the fault.
 fn finding_of(
     alloc: Global,
     specified: &ResolvedQuestion<'_>,

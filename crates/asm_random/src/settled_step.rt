@@ -4,7 +4,7 @@ ghost use Rattle.asm_state.specs.Signature.{count_of, state_of};
 ghost use Rattle.asm_syntax.specs.code.Views.{spec_of};
 ghost use Rattle.asm_check.specs.Shapes.{shape_of};
 ghost use Rattle.asm_explore.specs.code.ResolvedConditions.{IsSpecified};
-ghost use Rattle.asm_random.specs.DrawnTexts.{AreDrawn};
+ghost use Rattle.asm_random.specs.DrawnTexts.{AreDrawn, IsUndrawnAfter, most_rounds};
 ghost use Rattle.asm_random.specs.code.DraftSteps.{AddsStep};
 ghost use Rattle.asm_random.specs.code.DrawnSteps.{IsSilent, asked_under};
 ghost use Rattle.asm_random.specs.code.ResolvedRuns.{shape_in, specification_in};
@@ -21,8 +21,8 @@ use asm_state::state::State;
 use std::alloc::{AllocError, Global};
 
 /// Adds a step to a draft, with a number that is drawn for each choice that the step makes under
-/// these numbers, which is looked at once more. Returns whether it makes one; or nothing, if one of
-/// them isn't drawn.
+/// these numbers, which is looked at once more. Returns whether it makes one; or nothing, if after
+/// all rounds one of them isn't drawn.
 pub(crate) fn settle_step(
     alloc: Global,
     specified: &ResolvedQuestion<'_>,
@@ -35,8 +35,8 @@ pub(crate) fn settle_step(
     ensures adds { OnOk result (AddsStep draft.old draft.new) }
     ensures drawn { let step = length draft.new.steps.items in
         IfOk result (λ found. IfSome found (λ _. AreDrawn source.seed source.run step (asked_under specified.now draft.new state.now step))) }
-    ensures undrawn { let step = length draft.new.steps.items in
-        IfOk result (λ found. IfNone found (¬ (AreDrawn source.seed source.run step (asked_under specified.now draft.new state.now step)))) }
+    ensures undrawn { let m = specified.now in let step = length draft.new.steps.items in
+        IfOk result (λ found. IfNone found (IsUndrawnAfter (specification_in m) m.turns source.seed source.run step (state_of (shape_in m) state.now) most_rounds)) }
     ensures silent { let m = specified.now in
         IfOk result (λ found. IfSome found (λ chosen. chosen ≡ false → IsSilent (specification_in m) m.turns (state_of (shape_in m) state.now))) }
 {

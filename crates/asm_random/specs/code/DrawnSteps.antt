@@ -20,7 +20,7 @@ use Rattle.asm_explore.specs.ChoicePoints.{Asking}
 use Rattle.asm_explore.specs.RunChoices.{asked_from}
 use Rattle.asm_explore.specs.declared.resolved_question.ResolvedQuestion.{ResolvedQuestion}
 use Rattle.asm_random.specs.declared.draft.Draft.{Draft}
-use Rattle.asm_random.specs.Drafts.{draft_lines}
+use Rattle.asm_random.specs.code.Drafts.{draft_lines}
 use Rattle.asm_random.specs.DrawnTexts.{at_step}
 use Rattle.asm_random.specs.code.ResolvedRuns.{shape_in, specification_in}
 use Rattle.asm_random.specs.code.WrongSteps.{IsSameForAll, yields}

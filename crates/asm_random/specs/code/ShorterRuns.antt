@@ -4,14 +4,13 @@
 --                                in a deadlock, so does the other, and if not, it doesn't
 use Rattle.std.specs.Prelude.{◌≡◌, ◌≤◌, ℕ}
 use Rattle.asm_explore.specs.declared.resolved_question.ResolvedQuestion.{ResolvedQuestion}
-use Rattle.asm_random.specs.RandomResults.{IsBadDraft}
 use Rattle.asm_random.specs.declared.bad_draft.BadDraft.{BadDraft}
+use Rattle.asm_random.specs.code.DraftSteps.{IsWrongDraft}
 use Rattle.asm_random.specs.code.FaultKinds.{is_deadlock}
-use Rattle.asm_random.specs.code.ResolvedRuns.{crowds_in, rests_in, right_in, specification_in}
 
 module _ (m : ResolvedQuestion) where
   abbrev pub IsWrongFor : (most : ℕ) → BadDraft → Type 0
-  IsWrongFor most run = IsBadDraft (specification_in m) m.turns (crowds_in m) most (right_in m) (rests_in m) run
+  IsWrongFor most run = IsWrongDraft m most run.draft run.wrong.step run.wrong.fault
 
   pub record StaysWrong (old new : BadDraft) : Type 0 where
     pub wrong : (most : ℕ) → IsWrongFor most old → IsWrongFor most new

@@ -11,7 +11,7 @@ use Rattle.asm_explore.specs.RunChoices.{choices_in, chosen_from, lines_forward,
 use Rattle.asm_explore.specs.WrittenScripts.{AreSteps, IsTextOf, IsTextRefusal, lines_said, lines_text, numbers_in, written}
 use Rattle.asm_explore.specs.declared.outcomes.listed_outcome.Choice.{Choice}
 use Rattle.asm_explore.specs.declared.scripts.script_line.Zeros.TheVariants.{LeftOut}
-use Rattle.asm_random.specs.Drafts.{draft_lines}
+use Rattle.asm_random.specs.code.Drafts.{draft_lines}
 use Rattle.asm_random.specs.code.ResolvedRuns.{right_in, specification_in}
 use Rattle.asm_random.proofs.DrawnTextLines.{is_drawn_text, too_long}
 use Rattle.asm_random.proofs.draw.text_of_run.Goals as goal

@@ -9,9 +9,9 @@ use Rattle.asm_reader.specs.ExactLines.{exactly}
 use Rattle.asm_meaning.specs.Run.{IsAfter, IsStep, Run, Specification}
 use Rattle.asm_explore.specs.RunChoices.{asked_from}
 use Rattle.asm_explore.specs.declared.resolved_question.ResolvedQuestion.{ResolvedQuestion}
-use Rattle.asm_random.specs.Drafts.{draft_lines}
+use Rattle.asm_random.specs.code.Drafts.{draft_lines}
 use Rattle.asm_random.specs.declared.draft.Draft.{Draft}
-use Rattle.asm_random.specs.DrawnTexts.{AreDrawn, IsDrawnTo, at_step}
+use Rattle.asm_random.specs.DrawnTexts.{AreDrawn, IsDrawnTo, IsUndrawnAfter, at_step, most_rounds}
 use Rattle.asm_random.specs.code.DraftSteps.{AddsStep}
 use Rattle.asm_random.specs.code.DrawnSteps.{EndsRun, GoesOn, IsSilent, asked_under}
 use Rattle.asm_random.specs.code.ResolvedRuns.{right_in, shape_in, specification_in}
@@ -76,17 +76,19 @@ returns-in_default-clause-unsettled c =
     let A = state_of (shape_in m) c.loop-done.state in
     let adds = c.in_ok-chosen.ensures.adds in
     let after = still_there spec m.turns d e done A adds i.count i.after in
+    let right = sym c.is_right.ensures ∙ c.if-not-is_right.false in
     let step = length e.steps.items in
-    let not = nothing c.in_ok-chosen.field-0 (¬ (AreDrawn seed 0 step (asked_under m e c.loop-done.state step))) c.in_default.is c.in_ok-chosen.ensures.undrawn in
+    let undrawn = nothing c.in_ok-chosen.field-0 (IsUndrawnAfter spec m.turns seed 0 step A most_rounds) c.in_default.is c.in_ok-chosen.ensures.undrawn in
     record {
       script = script;
       made = done;
       limited = omega (arith, c.loop-done-test.true);
       drawn = drawn_grown spec m.turns (right_in m) seed d e done adds i.count i.drawn;
-      unsettled = λ are.
-          not
-          (subst (λ (k : ℕ). AreDrawn seed 0 k (asked_from spec m.turns A (at_step script k))) (sym (numbered d e done adds i.count))
-          (subst (λ (B : State). AreDrawn seed 0 (suc done) (asked_from spec m.turns B (at_step script (suc done)))) after.1 are));
+      comes = after.0;
+      is_right = ap (right_in m) after.1 ∙ right;
+      undrawn =
+          subst (λ (B : State). IsUndrawnAfter spec m.turns seed 0 (suc done) B most_rounds) (sym after.1)
+          (subst (λ (k : ℕ). IsUndrawnAfter spec m.turns seed 0 k A most_rounds) (numbered d e done adds i.count) undrawn);
     }
 
 pub returns-in_default-2-clause-drawn : goal.returns-in_default-2-clause-drawn

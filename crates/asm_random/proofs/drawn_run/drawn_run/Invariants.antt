@@ -3,7 +3,7 @@ use Rattle.asm_state.specs.code.Contents.{IsStateOf}
 use Rattle.asm_state.specs.Signature.{state_of}
 use Rattle.asm_reader.specs.ExactLines.{exactly}
 use Rattle.asm_meaning.specs.Run.{IsAfter}
-use Rattle.asm_random.specs.Drafts.{draft_lines}
+use Rattle.asm_random.specs.code.Drafts.{draft_lines}
 use Rattle.asm_random.specs.DrawnTexts.{IsDrawnTo}
 use Rattle.asm_random.specs.code.ResolvedRuns.{right_in, shape_in, specification_in}
 use Rattle.asm_random.proofs.drawn_run.drawn_run.Given as goal

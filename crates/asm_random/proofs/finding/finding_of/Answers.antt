@@ -6,7 +6,7 @@ use Rattle.asm_explore.specs.Search.{steps_to}
 use Rattle.asm_explore.specs.declared.fault.Fault.{Fault}
 use Rattle.asm_explore.specs.declared.resolved_question.ResolvedQuestion.{ResolvedQuestion}
 use Rattle.asm_random.specs.BadDrafts.{IsWrongUnder}
-use Rattle.asm_random.specs.Drafts.{draft_lines}
+use Rattle.asm_random.specs.code.Drafts.{draft_lines}
 use Rattle.asm_random.specs.RandomResults.{IsLast}
 use Rattle.asm_random.specs.code.ResolvedRuns.{crowds_in, rests_in, right_in, specification_in}
 use Rattle.asm_random.proofs.SameRuns.{wrong_alike}

@@ -4,7 +4,7 @@ use Rattle.asm_state.specs.Location.{State}
 use Rattle.asm_reader.specs.ExactLines.{exactly}
 use Rattle.asm_meaning.specs.Run.{Specification}
 use Rattle.asm_explore.specs.declared.outcomes.outcomes_error.RuleOverLimit.{RuleOverLimit}
-use Rattle.asm_random.specs.Drafts.{draft_lines}
+use Rattle.asm_random.specs.code.Drafts.{draft_lines}
 use Rattle.asm_random.specs.FineRuns.{AreFine, IsFineRun, MadeRun}
 use Rattle.asm_random.specs.code.DraftSteps.{IsFineDraft, IsWrongDraft}
 use Rattle.asm_random.specs.code.ResolvedRuns.{crowds_in, rests_in, right_in, specification_in}

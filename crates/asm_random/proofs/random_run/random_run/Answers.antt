@@ -5,7 +5,7 @@ use Rattle.std.proofs.lemmas.Bool.{false≢true}
 use Rattle.asm_state.specs.code.Contents.{IsStateOf}
 use Rattle.asm_state.specs.Signature.{state_of}
 use Rattle.asm_reader.specs.ExactLines.{exactly}
-use Rattle.asm_random.specs.Drafts.{draft_lines}
+use Rattle.asm_random.specs.code.Drafts.{draft_lines}
 use Rattle.asm_random.specs.FineRuns.{MayEnd}
 use Rattle.asm_meaning.specs.Run.{IsStep}
 use Rattle.asm_random.specs.code.WrongSteps.{GoesWrong}

@@ -2,7 +2,7 @@ use Rattle.std.proofs.Common.{◌≡◌, true, length}
 use Rattle.asm_state.specs.code.Contents.{IsStateOf}
 use Rattle.asm_state.specs.Signature.{state_of}
 use Rattle.asm_reader.specs.ExactLines.{exactly}
-use Rattle.asm_random.specs.Drafts.{draft_lines}
+use Rattle.asm_random.specs.code.Drafts.{draft_lines}
 use Rattle.asm_random.specs.code.ResolvedRuns.{IsPassed, crowds_in, rests_in, right_in, shape_in, specification_in}
 use Rattle.asm_random.proofs.RunsSoFar.{IsFineTo}
 use Rattle.asm_random.proofs.random_run.random_run.Given as goal

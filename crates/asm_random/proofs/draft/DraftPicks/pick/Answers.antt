@@ -2,7 +2,7 @@ use Rattle.std.proofs.Common.{◌≡◌, ℕ, ◌+◌, ◌-◌, ◌<◌, ◌≤�
 use Rattle.std.specs.BTreeMap.{BTreeMap}
 use Rattle.std.specs.Option.{option_or}
 use Rattle.asm_reader.specs.ScriptLines.{exact_choice}
-use Rattle.asm_random.specs.Drafts.{lines_from}
+use Rattle.asm_random.specs.code.Drafts.{lines_from}
 use Rattle.asm_random.proofs.DraftLines.{picked_before, picked_behind, picked_from, or_nothing, indexed}
 use Rattle.asm_random.proofs.draft.DraftPicks.pick.Goals as goal
 

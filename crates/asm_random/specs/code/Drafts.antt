@@ -1,4 +1,4 @@
--- Definition. The lines of a script that takes the candidates of a draft.
+-- Bridge to the code. The lines of a script that takes the candidates of a draft.
 --     lines_in step entries      a line for each number of a step
 --     lines_from step maps       for each of some steps, the first of them this one
 --     draft_lines d              for each of a draft
