@@ -162,6 +162,7 @@ class Table:
             columns = [place for place in known if changes(place, run.states)]
         shown = columns if only else columns[:MOST_COLUMNS]
         self.more = len(columns) - len(shown)
+        self.places = shown
         self.columns = [column_of(place, run.states) for place in shown]
 
     def front(self, is_first):

@@ -49,6 +49,38 @@ def of_numbers(command):
     yield Row([name, *ONE], 1, command.exhausted(1000), text=FOREVER)
 
 
+# Comments of a script that say how many steps and turns its run has, and others that don't.
+SAID = [
+    ("# asm --steps 7 --script THIS\n", 7),
+    ("# asm --steps 0 --script THIS text\n", 0),
+    ("# asm --steps 0000007 --script THIS text\r\n", 7),
+    ("# asm --steps 9 --script THIS\n# asm --steps 3 --script THIS 'a b'", 3),
+    ("# asm --steps 3 of a run\n\n# asm --steps\n", 3),
+    ("# asm --steps 3 --script THIS\n# asm --steps 1000001 --script THIS\n# asm --steps 00000009 --script THIS\n", 3),
+    ("# asm --steps 9 --script THIS\n# asm --steps 4  --script THIS\n", 4),
+]
+UNSAID = ["", "# asm --steps 7", "#asm --steps 7 --script THIS"]
+UNSAID += [f"# asm --steps {word} --script THIS" for word in ("", " 7", "+7", "-7", "7x", "x")]
+
+
+def of_said_numbers(command):
+    """Without `--steps` the numbers are those that the script says."""
+    name = command.name
+    given = [name, "-", "--script", "script"]
+    for script, steps in SAID:
+        yield Row(given, 0, command.still(steps), text=STILL, files={"script": script})
+        yield Row([*given, "--steps", "5"], 0, command.still(5), text=STILL, files={"script": script})
+        yield Row([name, "text", "--script", "-"], 0, is_front=True, out=f"# limit after step {steps}\n", text=script, files={"text": STILL})
+    for script in UNSAID:
+        yield Row(given, 0, command.still(1000), text=STILL, files={"script": script})
+    turns = {"script": "# asm --steps 1 --script THIS --turns 5 text\n"}
+    yield Row(given, 1, command.exhausted(5), text=FOREVER, files=turns)
+    yield Row([*given, "--turns", "7"], 1, command.exhausted(7), text=FOREVER, files=turns)
+    yield Row([*given, "--steps", "1"], 1, command.exhausted(1000), text=FOREVER, files=turns)
+    for said in ("--turns 0", "--turns 1000001", "--turns", "--turns x", "-- --turns 5"):
+        yield Row(given, 1, command.exhausted(1000), text=FOREVER, files={"script": f"# asm --steps 1 --script THIS {said}\n"})
+
+
 def of_seeds(command):
     """Choices are drawn by any number of 64 bits, and not beside a script."""
     name = command.name
@@ -71,7 +103,7 @@ def of_words(command):
     yield refused(4, [name, "--steps", "3"], missing)
     yield refused(4, [name, "-", "-"], "error: unexpected argument '-' found\n")
     options = ("--walks", "--always", "--within", "--states", "--outcomes", "--deadlock-unless", "--workers", "--only", "--width", "--trace")
-    for option in (*options, "--table", "--dot", "--dot-only", "--seed", "--draw"):
+    for option in (*options, "--table", "--dot", "--dot-only", "--seed", "--draw", "--html", "--json"):
         if option not in command.options:
             yield refused(4, [name, "-", option, "1"], f"error: unexpected argument '{option}' found\n")
     if "--draw" in command.options:
@@ -165,5 +197,5 @@ def of_streams(command):
 
 
 def of_all(command):
-    for of in (of_numbers, of_words, of_texts, of_refused_scripts, of_streams):
+    for of in (of_numbers, of_said_numbers, of_words, of_texts, of_refused_scripts, of_streams):
         yield from of(command)
